@@ -1,0 +1,5 @@
+pub mod Offers
+pub mod Clearing
+pub mod Shares
+pub mod Settlement
+pub mod Surplus

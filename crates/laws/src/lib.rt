@@ -1,0 +1,1 @@
+// Mathematics that belongs to no one function: its theorems stand in specs/.
