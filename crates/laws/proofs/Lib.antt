@@ -1,2 +1,5 @@
 pub mod Cases
 pub mod Sums
+pub mod Where
+pub mod Largests
+pub mod Leasts
