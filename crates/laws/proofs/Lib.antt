@@ -3,3 +3,6 @@ pub mod Sums
 pub mod Where
 pub mod Largests
 pub mod Leasts
+pub mod Counts
+pub mod Orders
+pub mod Ranks
