@@ -53,7 +53,7 @@ reversed-order before order =
     record { irreflexive = order .irreflexive; transitive = λ i j k a b. order .transitive k j i b a }
 
 module _ (key : ℕ → ℕ) (rest : ℕ → ℕ → Bool) where
-  thenBy-lower : (i j : ℕ) → key i < key j → thenBy key rest i j ≡ true
+  pub thenBy-lower : (i j : ℕ) → key i < key j → thenBy key rest i j ≡ true
   thenBy-lower i j l = rw (lt-ltb (key i) (key j) l)
 
   thenBy-higher : (i j : ℕ) → key j < key i → thenBy key rest i j ≡ false
