@@ -24,8 +24,8 @@ leb-either : (a p : ℕ) → ltb a p || eqb a p ≡ leb a p
 leb-either a p =
     by-order p a
     (λ h. rw (le-ltb a p h) (by-order a p
-        (λ g. cc (eq-eqb a p (le-antisymm g h), le-leb a p g))
-        (λ g. cc (ne-eqb a p (λ e. omega arith), lt-leb a p g))))
+    (λ g. cc (eq-eqb a p (le-antisymm g h), le-leb a p g))
+    (λ g. cc (ne-eqb a p (λ e. omega arith), lt-leb a p g))))
     (λ h. rw (lt-ltb a p h, le-leb a p (le-of-lt h)))
 
 -- what is offered at a price or below is what is offered below it and its level

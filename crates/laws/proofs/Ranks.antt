@@ -58,7 +58,7 @@ module _ (within : ℕ → Bool) (before : ℕ → ℕ → Bool) (order : Strict
   pub rank-less : (n i k : ℕ) → i < n → within i ≡ true → before i k ≡ true → rank n i < rank n k
   rank-less n i k l w b =
       let counts = and-true (within i) (before i k) w b in
-      countWhere-less _ _ n i (λ j l t. later i k j b t) l (rw (w, order .irreflexive i)) counts
+      countWhere-less _ _ n i (λ j m t. later i k j b t) l (rw (w, order .irreflexive i)) counts
 
   -- one place more, n: i's rank stays, or grows by one where n is within and stands before i
   rank-kept : (n i : ℕ) → within n && before n i ≡ false → rank (suc n) i ≡ rank n i
