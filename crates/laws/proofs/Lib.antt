@@ -6,3 +6,6 @@ pub mod Leasts
 pub mod Counts
 pub mod Orders
 pub mod Ranks
+pub mod Summands
+pub mod Division
+pub mod Remainders
