@@ -1,0 +1,2 @@
+pub mod Supply
+pub mod Ahead

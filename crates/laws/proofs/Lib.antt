@@ -1,2 +1,11 @@
 pub mod Cases
 pub mod Sums
+pub mod Where
+pub mod Largests
+pub mod Leasts
+pub mod Counts
+pub mod Orders
+pub mod Ranks
+pub mod Summands
+pub mod Division
+pub mod Remainders

@@ -1,0 +1,40 @@
+-- The order of spare tenths, `ahead`, is a strict order in which no two offers of a book stand level.
+--
+-- It is read as its keys, one after the other: the remainder, from its end, then the stamp, then the resource.
+-- Assumes nothing.
+use mathlib.Core.Path.{_≡_}
+use mathlib.Core.Bool.{Bool, true}
+use Prim.Native.Nat.{ℕ, _<_}
+use Rattle.laws.proofs.Orders.{StrictOrder, Tied, byKey, thenBy, reversed}
+use Rattle.laws.proofs.Orders.{byKey-order, byKey-tied, reversed-order, thenBy-order, thenBy-tied, thenBy-lower}
+use Rattle.laws.proofs.Ranks.{NoTies}
+use Rattle.auction.specs.Offers.{Offers, Proper}
+use Rattle.auction.specs.Shares.{remainder, ahead}
+
+-- the keys among equal remainders: the earlier stamp, then the lower resource
+abbrev byStamp : Offers → ℕ → ℕ → Bool
+byStamp o = thenBy (o .stamp) (byKey (o .resource))
+
+-- nothing is ahead of itself, and what is ahead of one that is ahead of a third is ahead of the third
+pub ahead-order : (o : Offers) (x : ℕ) → StrictOrder (ahead o x)
+unfolding ahead
+ahead-order o x =
+    let stamped = thenBy-order (o .stamp) _ (byKey-order (o .resource)) in
+    reversed-order _ (thenBy-order (remainder o x) (reversed (byStamp o)) (reversed-order _ stamped))
+
+-- offers of which neither is ahead have one resource number
+ahead-tied : (o : Offers) (x i j : ℕ) → Tied (ahead o x) i j → o .resource i ≡ o .resource j
+unfolding ahead
+ahead-tied o x i j t =
+    let remained = thenBy-tied (remainder o x) (reversed (byStamp o)) j i t in
+    let stamped = thenBy-tied (o .stamp) (byKey (o .resource)) i j (remained .1) in
+    byKey-tied (o .resource) i j (stamped .1)
+
+-- where resource numbers differ, no two offers stand level
+pub ahead-untied : (o : Offers) (x : ℕ) (within : ℕ → Bool) → Proper o → NoTies within (ahead o x) (o .count)
+ahead-untied o x within proper i j k l v w t = proper .distinct i j k l (ahead-tied o x i j t)
+
+-- the larger remainder is ahead
+pub ahead-larger : (o : Offers) (x i j : ℕ) → remainder o x i < remainder o x j → ahead o x j i ≡ true
+unfolding ahead
+ahead-larger o x i j l = thenBy-lower (remainder o x) (reversed (byStamp o)) i j l

@@ -1,0 +1,68 @@
+-- Laws of what is offered at a price, below it, and at exactly it.
+--
+-- In order: supply never falls as the price rises; a level splits off; supply below a price; all quantities; one offer.
+-- Assumes nothing.
+use mathlib.Core.Path.{_≡_, refl, sym, ap, _∙_}
+use mathlib.Core.Bool.{Bool, true, false, _||_}
+use Prim.Native.Nat.{ℕ, zero, suc, _+_, _≤_, _<_}
+use native.Mathlib.Nat.{le-trans, le-antisymm, le-of-lt, lt-of-le-of-lt, lt-of-lt-of-le}
+use native.Mathlib.Omega.{arith}
+use lib.Dec.{leb, ltb, eqb, leb·suc-suc}
+use borrow.Author.Tests.{leb-true, ltb-true, eqb-true, le-leb, lt-leb, lt-ltb, le-ltb, eq-eqb, ne-eqb}
+use Rattle.laws.specs.Sum.{sumTo, sumWhere}
+use Rattle.laws.proofs.Cases.{by-order}
+use Rattle.laws.proofs.Where.{sumWhere-implied, sumWhere-same, sumWhere-either, sumWhere-all, sumWhere-place, sumWhere-found}
+use Rattle.auction.specs.Offers.{Offers, supply, supplyBelow, levelSum}
+
+-- at a higher price no less is offered
+pub supply-mono : (o : Offers) (p q : ℕ) → p ≤ q → supply o p ≤ supply o q
+unfolding supply
+supply-mono o p q h =
+    sumWhere-implied _ _ (o .quantity) (o .count) (λ i l e. le-leb _ q (le-trans (leb-true _ p e) h))
+
+leb-either : (a p : ℕ) → ltb a p || eqb a p ≡ leb a p
+leb-either a p =
+    by-order p a
+    (λ h. rw (le-ltb a p h) (by-order a p
+    (λ g. cc (eq-eqb a p (le-antisymm g h), le-leb a p g))
+    (λ g. cc (ne-eqb a p (λ e. omega arith), lt-leb a p g))))
+    (λ h. rw (lt-ltb a p h, le-leb a p (le-of-lt h)))
+
+-- what is offered at a price or below is what is offered below it and its level
+pub supply-split : (o : Offers) (p : ℕ) → supplyBelow o p + levelSum o p ≡ supply o p
+unfolding supply supplyBelow levelSum
+supply-split o p =
+    sumWhere-either (λ i. ltb (o .price i) p) (λ i. eqb (o .price i) p) (o .quantity) (o .count)
+    (λ i l e. ne-eqb _ p (λ q. omega (arith, ltb-true _ p e)))
+    ∙ sumWhere-same _ _ (o .quantity) (o .count) (λ i l. leb-either (o .price i) p)
+
+-- what is offered below a price is what is offered at the price before
+pub supplyBelow-suc : (o : Offers) (p : ℕ) → supplyBelow o (suc p) ≡ supply o p
+unfolding supply supplyBelow
+supplyBelow-suc o p = sumWhere-same _ _ (o .quantity) (o .count) (λ i l. leb·suc-suc (o .price i) p)
+
+-- below a price no more is offered than at it
+pub supplyBelow-supply : (o : Offers) (p : ℕ) → supplyBelow o p ≤ supply o p
+supplyBelow-supply o p = omega (arith, supply-split o p)
+
+-- at a lower price no more is offered than below a higher one
+pub supply-supplyBelow : (o : Offers) (p q : ℕ) → p < q → supply o p ≤ supplyBelow o q
+unfolding supply supplyBelow
+supply-supplyBelow o p q h =
+    sumWhere-implied _ _ (o .quantity) (o .count) (λ i l e. lt-ltb _ q (lt-of-le-of-lt (leb-true _ p e) h))
+
+-- below a higher price no less is offered
+pub supplyBelow-mono : (o : Offers) (p q : ℕ) → p ≤ q → supplyBelow o p ≤ supplyBelow o q
+unfolding supplyBelow
+supplyBelow-mono o p q h =
+    sumWhere-implied _ _ (o .quantity) (o .count) (λ i l e. lt-ltb _ q (lt-of-lt-of-le (ltb-true _ p e) h))
+
+-- at no price is more offered than all quantities together
+pub supply-all : (o : Offers) (p : ℕ) → supply o p ≤ sumTo (o .quantity) (o .count)
+unfolding supply
+supply-all o p = sumWhere-all _ (o .quantity) (o .count)
+
+-- an offer priced at or below p is part of what is offered there
+pub supply-place : (o : Offers) (p i : ℕ) → i < o .count → o .price i ≤ p → o .quantity i ≤ supply o p
+unfolding supply
+supply-place o p i l h = sumWhere-place _ (o .quantity) (o .count) i l (le-leb _ p h)

@@ -1,0 +1,97 @@
+-- Strict orders of places, given by Boolean tests, and orders by one key after another.
+--
+-- In order: three cases of two numbers; what a strict order is, and who stands level in it; the order by a key; the order
+-- from its end; the order by a key first and then by another order.
+-- Assumes nothing.
+use mathlib.Core.Path.{_≡_, refl, sym, _∙_}
+use mathlib.Core.Bool.{Bool, true, false, _&&_, _||_, true≢false}
+use Prim.Native.Nat.{ℕ, _<_}
+use native.Mathlib.Omega.{arith}
+use lib.Dec.{ltb, eqb}
+use borrow.Author.Tests.{ltb-true, ltb-false, lt-ltb, le-ltb, eq-eqb, ne-eqb}
+use Rattle.laws.proofs.Cases.{by-order, by-equality}
+
+-- under, equal or over
+pub by-comparison {ℓ} : {X : Type ℓ} (a b : ℕ) → (a < b → X) → (a ≡ b → X) → (b < a → X) → X
+by-comparison a b f g h =
+    by-order b a (λ l. by-equality a b g (λ n. h (omega arith))) f
+
+-- nothing stands before itself, and what stands before one that stands before a third stands before the third
+pub record StrictOrder (before : ℕ → ℕ → Bool) : Type 0 where
+  pub irreflexive : (i : ℕ) → before i i ≡ false
+  pub transitive : (i j k : ℕ) → before i j ≡ true → before j k ≡ true → before i k ≡ true
+
+-- neither stands before the other
+abbrev pub Tied : (ℕ → ℕ → Bool) → ℕ → ℕ → Type 0
+Tied before i j = (before i j ≡ false) × (before j i ≡ false)
+
+-- the lower key first
+abbrev pub byKey : (ℕ → ℕ) → ℕ → ℕ → Bool
+byKey key i j = ltb (key i) (key j)
+
+-- the lower key first, and the order `rest` among equal keys
+abbrev pub thenBy : (ℕ → ℕ) → (ℕ → ℕ → Bool) → ℕ → ℕ → Bool
+thenBy key rest i j = ltb (key i) (key j) || (eqb (key i) (key j) && rest i j)
+
+-- the order from its end
+abbrev pub reversed : (ℕ → ℕ → Bool) → ℕ → ℕ → Bool
+reversed before i j = before j i
+
+pub byKey-order : (key : ℕ → ℕ) → StrictOrder (byKey key)
+byKey-order key =
+    record {
+      irreflexive = λ i. le-ltb (key i) (key i) (omega arith);
+      transitive = λ i j k a b.
+          lt-ltb (key i) (key k) (omega (arith, ltb-true (key i) (key j) a, ltb-true (key j) (key k) b));
+    }
+
+pub byKey-tied : (key : ℕ → ℕ) (i j : ℕ) → Tied (byKey key) i j → key i ≡ key j
+byKey-tied key i j t = omega (arith, ltb-false (key i) (key j) (t .0), ltb-false (key j) (key i) (t .1))
+
+pub reversed-order : (before : ℕ → ℕ → Bool) → StrictOrder before → StrictOrder (reversed before)
+reversed-order before order =
+    record { irreflexive = order .irreflexive; transitive = λ i j k a b. order .transitive k j i b a }
+
+module _ (key : ℕ → ℕ) (rest : ℕ → ℕ → Bool) where
+  pub thenBy-lower : (i j : ℕ) → key i < key j → thenBy key rest i j ≡ true
+  thenBy-lower i j l = rw (lt-ltb (key i) (key j) l)
+
+  thenBy-higher : (i j : ℕ) → key j < key i → thenBy key rest i j ≡ false
+  thenBy-higher i j l = rw (le-ltb (key i) (key j) (omega arith), ne-eqb (key i) (key j) (omega arith))
+
+  thenBy-equal : (i j : ℕ) → key i ≡ key j → thenBy key rest i j ≡ rest i j
+  thenBy-equal i j e = rw (le-ltb (key i) (key j) (omega arith), eq-eqb (key i) (key j) e)
+
+  -- what stands before another has the lower key, or an equal key and comes first in the rest
+  by-keys : {X : Type 0} (i j : ℕ) → thenBy key rest i j ≡ true
+      → (key i < key j → X) → (key i ≡ key j → rest i j ≡ true → X) → X
+  by-keys i j t f g =
+      by-comparison (key i) (key j)
+      f
+      (λ e. g e (sym (thenBy-equal i j e) ∙ t))
+      (λ l. absurd (true≢false (sym t ∙ thenBy-higher i j l)))
+
+  thenBy-transitive : StrictOrder rest → (i j k : ℕ)
+      → thenBy key rest i j ≡ true → thenBy key rest j k ≡ true → thenBy key rest i k ≡ true
+  thenBy-transitive order i j k a b =
+      by-keys i j a
+      (λ l. by-keys j k b (λ m. thenBy-lower i k (omega arith)) (λ e r. thenBy-lower i k (omega arith)))
+      (λ d q. by-keys j k b (λ m. thenBy-lower i k (omega arith)) (λ e r. both (d ∙ e) q r))
+    where
+      both : key i ≡ key k → rest i j ≡ true → rest j k ≡ true → thenBy key rest i k ≡ true
+      both e q r = thenBy-equal i k e ∙ order .transitive i j k q r
+
+  pub thenBy-order : StrictOrder rest → StrictOrder (thenBy key rest)
+  thenBy-order order =
+      record {
+        irreflexive = λ i. thenBy-equal i i refl ∙ order .irreflexive i;
+        transitive = thenBy-transitive order;
+      }
+
+  -- those that stand level have equal keys and stand level in the rest
+  pub thenBy-tied : (i j : ℕ) → Tied (thenBy key rest) i j → (key i ≡ key j) × Tied rest i j
+  thenBy-tied i j t =
+      by-comparison (key i) (key j)
+      (λ l. absurd (true≢false (sym (thenBy-lower i j l) ∙ t .0)))
+      (λ e. (e, (sym (thenBy-equal i j e) ∙ t .0, sym (thenBy-equal j i (sym e)) ∙ t .1)))
+      (λ l. absurd (true≢false (sym (thenBy-lower j i l) ∙ t .1)))
