@@ -1,2 +1,4 @@
 pub mod Supply
 pub mod Total
+pub mod NextPrice
+pub mod Price

@@ -3,7 +3,7 @@
 use mathlib.Core.Path.{_≡_}
 use mathlib.Core.Bool.{Bool}
 use Prim.Native.Nat.{ℕ, suc, _≤_, _<_, zero-le}
-use native.Mathlib.Nat.{le-suc}
+use native.Mathlib.Nat.{le-suc, le-trans, not-suc-le-self}
 use native.Mathlib.Omega.{arith}
 use lib.Dec.{leb}
 use borrow.Author.Tests.{leb-true, le-leb, lt-leb}
@@ -63,12 +63,11 @@ total-found d o falling x l h f =
     (λ z. le-leb x _ h)
     (λ m. lt-leb (suc x) _ (f m))
 
--- past the cleared total, no more than it is offered at the curve price
-pub supply-past-total : (d : Demand) (o : Offers) → Falling d →
-  (k : ℕ) → clearedTotal d o < k → k ≤ d .last → supply o (d .price k) ≤ clearedTotal d o
+-- past the total, no more than it is offered at the curve price
+pub supply-past-total : (d : Demand) (o : Offers) (x : ℕ) → Falling d → IsTotal d o x →
+  (k : ℕ) → x < k → k ≤ d .last → supply o (d .price k) ≤ x
 unfolding Falling
-supply-past-total d o falling k h l =
-    let x = clearedTotal d o in
+supply-past-total d o x falling t k h l =
     by-order (supply o (d .price (suc x))) x
-    (λ g. omega (arith, supply-mono o (d .price k) (d .price (suc x)) (falling (suc x) k h l)))
-    (λ g. absurd (omega (arith, total-is-largest d o .most (suc x) (omega arith) g)))
+    (λ g. le-trans (supply-mono o (d .price k) (d .price (suc x)) (falling (suc x) k h l)) g)
+    (λ g. absurd (not-suc-le-self x (t .most (suc x) (le-trans h l) g)))
