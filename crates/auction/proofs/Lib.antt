@@ -2,3 +2,4 @@ pub mod Supply
 pub mod Total
 pub mod NextPrice
 pub mod Price
+pub mod Levels

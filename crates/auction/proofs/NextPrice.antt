@@ -2,10 +2,11 @@
 --
 -- In order: what it is; that some offer has it; that it is alone; what is offered below it.
 -- Assumes nothing.
-use mathlib.Core.Path.{_≡_, refl, sym, ap, _∙_}
+use mathlib.Core.Path.{_≡_, refl, ap, subst}
+use mathlib.Core.Bool.{false}
 use mathlib.Core.Option.{Option, none, some}
-use Prim.Native.Nat.{ℕ, zero, suc, _≤_, _<_, zero-le}
-use native.Mathlib.Nat.{le-antisymm, le-refl, le-trans, le-step, lt-of-lt-of-le, not-le-of-lt}
+use Prim.Native.Nat.{ℕ, zero, suc, _≤_, _<_}
+use native.Mathlib.Nat.{le-antisymm, le-refl, le-trans, le-step, le-of-eq, not-le-of-lt}
 use native.Mathlib.Omega.{arith}
 use lib.Dec.{ltb}
 use borrow.Author.Tests.{ltb-true, ltb-false, lt-ltb}
@@ -13,7 +14,7 @@ use Rattle.laws.proofs.Cases.{by-order}
 use Rattle.laws.proofs.Leasts.{Least, leastWhere-is}
 use Rattle.auction.specs.Offers.{Offers, supply, supplyBelow, levelSum}
 use Rattle.auction.specs.Clearing.{nextPrice}
-use Rattle.auction.proofs.Supply.{supply-mono, supply-split, supplyBelow-zero, supplyBelow-suc, supply-found, levelSum-found}
+use Rattle.auction.proofs.Supply.{supply-mono, supply-split, supplyBelow-zero, supplyBelow-suc, levelSum-found}
 
 -- m is the lowest price at which more than x is offered
 pub record IsNext (o : Offers) (x m : ℕ) : Type 0 where
@@ -27,36 +28,56 @@ abbrev pub Next : Offers → ℕ → Option ℕ → Type 0
 Next o x none = (p : ℕ) → supply o p ≤ x
 Next o x (some m) = IsNext o x m
 
+-- an offer whose price is no higher than p, and at whose price more than x is offered
+record OfferOver (o : Offers) (x p : ℕ) : Type 0 where
+  row : ℕ
+  inside : row < o .count
+  atMost : o .price row ≤ p
+  over : x < supply o (o .price row)
+
+-- where a price level lifts what is offered over x, one of its offers does
+level-over : (o : Offers) (x p : ℕ) → x < supply o p → supplyBelow o p ≤ x → OfferOver o x p
+level-over o x p h g =
+    let r = levelSum-found o p (omega (arith, supply-split o p)) in
+    record { row = r .0; inside = r .1; atMost = le-of-eq (r .2); over = rw (r .2) h }
+
+offer-higher : (o : Offers) (x p : ℕ) → OfferOver o x p → OfferOver o x (suc p)
+offer-higher o x p w = record { row = w .row; inside = w .inside; atMost = le-step (w .atMost); over = w .over }
+
 -- where more than x is offered at a price, it is so at some offer's price, which is no higher
-offer-over : (o : Offers) (x p : ℕ) → x < supply o p → (i : ℕ) × (i < o .count) × (o .price i ≤ p) × (x < supply o (o .price i))
-offer-over o x zero h =
-    let r = supply-found o 0 (omega arith) in
-    (r .0, r .1, r .2, lt-of-lt-of-le h (supply-mono o 0 (o .price (r .0)) zero-le))
+offer-over : (o : Offers) (x p : ℕ) → x < supply o p → OfferOver o x p
+offer-over o x zero h = level-over o x zero h (omega (arith, supplyBelow-zero o))
 offer-over o x (suc p) h =
     by-order (supply o p) x
-    (λ g.
-        let r = levelSum-found o (suc p) (omega (arith, supply-split o (suc p), supplyBelow-suc o p)) in
-        (r .0, r .1, omega (arith, r .2), rw (r .2) h))
-    (λ g. let r = offer-over o x p g in (r .0, r .1, le-step (r .2), r .3))
+    (λ g. level-over o x (suc p) h (omega (arith, supplyBelow-suc o p)))
+    (λ g. offer-higher o x p (offer-over o x p g))
 
 -- of all prices, `nextPrice` is the lowest at which more than x is offered
 pub next-is : (o : Offers) (x : ℕ) → Next o x (nextPrice o x)
 unfolding nextPrice
 next-is o x = go (nextPrice o x) (leastWhere-is _ (o .price) (o .count))
   where
-    go : (a : Option ℕ) → Least (λ i. ltb x (supply o (o .price i))) (o .price) (o .count) a → Next o x a
-    go none r = λ p.
-        by-order (supply o p) x (λ h. h)
-        (λ h.
-            let w = offer-over o x p h in
-            absurd (not-le-of-lt (w .3) (ltb-false _ _ (r (w .0) (w .1)))))
-    go (some m) r =
-        record {
-          over = rw (← r .value) (ltb-true _ _ (r .passes));
-          lowest = λ p h. let w = offer-over o x p h in le-trans (r .lowest (w .0) (w .1) (lt-ltb _ _ (w .3))) (w .2)
-        }
+    refuted : (p : ℕ) → ((i : ℕ) → i < o .count → ltb x (supply o (o .price i)) ≡ false) → OfferOver o x p → ⊥
+    refuted p r w = not-le-of-lt (w .over) (ltb-false _ _ (r (w .row) (w .inside)))
 
--- there is one answer
+    go : (a : Option ℕ) → Least (λ i. ltb x (supply o (o .price i))) (o .price) (o .count) a → Next o x a
+    go none r = λ p. by-order (supply o p) x (λ h. h) (λ h. absurd (refuted p r (offer-over o x p h)))
+    go (some m) r = record {
+      over = rw (← r .value) (ltb-true _ _ (r .passes));
+      lowest = λ p h.
+          let w = offer-over o x p h in
+          le-trans (r .lowest (w .row) (w .inside) (lt-ltb _ _ (w .over))) (w .atMost);
+    }
+
+-- the next price, where there is one
+pub next-some : (o : Offers) (x m : ℕ) → nextPrice o x ≡ some m → IsNext o x m
+next-some o x m e = subst (Next o x) e (next-is o x)
+
+-- where there is none, no price has more than x
+pub next-none : (o : Offers) (x : ℕ) → nextPrice o x ≡ none → (p : ℕ) → supply o p ≤ x
+next-none o x e = subst (Next o x) e (next-is o x)
+
+-- there is one answer: whatever is the lowest price at which more than x is offered, is the next price
 pub next-alone : (o : Offers) (x : ℕ) (a b : Option ℕ) → Next o x a → Next o x b → a ≡ b
 next-alone o x none none r s = refl
 next-alone o x none (some m) r s = absurd (omega (arith, r m, s .over))

@@ -1,7 +1,7 @@
 -- The clearing price separates what clears from what does not.
 --
--- In order: the lesser of a price and the next price; the price at the margin of a total, and what it separates; the
--- clearing price is that price, and there is none exactly when nothing clears.
+-- In order: the lesser of a price and the next price; the price at the margin of a total; the clearing price is the one at
+-- the margin of the cleared total, and there is none exactly when nothing clears.
 -- Assumes nothing.
 use mathlib.Core.Path.{_≡_, refl, sym, ap, _∙_}
 use mathlib.Core.Option.{Option, none, some}
@@ -28,7 +28,7 @@ lesser-under o x v (some m) r p h = next-under o x m p r (omega arith)
 
 -- at each price over it, x is filled before
 lesser-over : (o : Offers) (x v : ℕ) (a : Option ℕ) → Next o x a → x ≤ supply o v →
-  (p : ℕ) → lesser v a < p → x ≤ supplyBelow o p
+    (p : ℕ) → lesser v a < p → x ≤ supplyBelow o p
 lesser-over o x v none r s p h = le-trans s (supply-supplyBelow o v p h)
 lesser-over o x v (some m) r s p h =
     by-order v m
@@ -37,7 +37,7 @@ lesser-over o x v (some m) r s p h =
 
 -- a price no higher than v at which no more than x is offered is no higher than the lesser of both
 lesser-least : (o : Offers) (x v : ℕ) (a : Option ℕ) → Next o x a →
-  (p : ℕ) → p ≤ v → supply o p ≤ x → p ≤ lesser v a
+    (p : ℕ) → p ≤ v → supply o p ≤ x → p ≤ lesser v a
 lesser-least o x v none r p l h = l
 lesser-least o x v (some m) r p l h =
     by-order p m (λ g. omega arith) (λ g. absurd (omega (arith, r .over, supply-mono o m p (omega arith))))
@@ -46,8 +46,8 @@ lesser-least o x v (some m) r p l h =
 unfoldable pub marginPrice : Demand → Offers → ℕ → ℕ
 marginPrice d o x = lesser (d .price x) (nextPrice o x)
 
--- the price p separates what clears of the total x from what does not
-pub record Separates (d : Demand) (o : Offers) (x p : ℕ) : Type 0 where
+-- the price p stands at the margin of the total x: it separates what clears from what does not
+pub record Margin (d : Demand) (o : Offers) (x p : ℕ) : Type 0 where
   -- all that is offered at a price under p fits into x
   pub under : (q : ℕ) → q < p → supply o q ≤ x
   -- x is filled before a price over p
@@ -57,10 +57,10 @@ pub record Separates (d : Demand) (o : Offers) (x p : ℕ) : Type 0 where
   -- past x the curve does not rise over p
   pub past : (k : ℕ) → x < k → k ≤ d .last → d .price k ≤ p
 
--- the price at the margin of the largest quantity that can be supplied separates
-pub margin-separates : (d : Demand) (o : Offers) (x : ℕ) → Falling d → IsTotal d o x → Separates d o x (marginPrice d o x)
+-- the largest quantity that can be supplied has a price at its margin
+pub marginPrice-margin : (d : Demand) (o : Offers) (x : ℕ) → Falling d → IsTotal d o x → Margin d o x (marginPrice d o x)
 unfolding marginPrice Falling
-margin-separates d o x falling t =
+marginPrice-margin d o x falling t =
     let v = d .price x in
     let a = nextPrice o x in
     let r = next-is o x in
@@ -69,12 +69,12 @@ margin-separates d o x falling t =
       over = lesser-over o x v a r (t .supplied);
       upTo = λ k l. le-trans (lesser-left v a) (falling k x l (t .within));
       past = λ k h l.
-        lesser-least o x v a r (d .price k) (falling x k (omega arith) l) (supply-past-total d o x falling t k h l)
+          lesser-least o x v a r (d .price k) (falling x k (omega arith) l) (supply-past-total d o x falling t k h l);
     }
 
--- a price that separates is no higher than the next price
-pub separates-next : (d : Demand) (o : Offers) (x p m : ℕ) → Separates d o x p → IsNext o x m → p ≤ m
-separates-next d o x p m s r = by-order p m (λ h. h) (λ h. absurd (not-le-of-lt (r .over) (s .under m h)))
+-- the price at the margin is no higher than the next price
+pub margin-next : (d : Demand) (o : Offers) (x p m : ℕ) → Margin d o x p → IsNext o x m → p ≤ m
+margin-next d o x p m s r = by-order p m (λ h. h) (λ h. absurd (not-le-of-lt (r .over) (s .under m h)))
 
 -- when nothing clears there is no price
 pub price-none : (d : Demand) (o : Offers) → clearedTotal d o ≡ 0 → clearingPrice d o ≡ none
@@ -83,7 +83,7 @@ price-none d o e = cond-true _ none _ (eq-eqb _ 0 e)
 
 -- when something clears there is a price, the one at the margin
 pub price-some : (d : Demand) (o : Offers) → 0 < clearedTotal d o →
-  clearingPrice d o ≡ some (marginPrice d o (clearedTotal d o))
+    clearingPrice d o ≡ some (marginPrice d o (clearedTotal d o))
 unfolding clearingPrice marginPrice
 price-some d o l = cond-false _ none _ (ne-eqb (clearedTotal d o) 0 (ne-of-gt l))
 
@@ -101,12 +101,12 @@ price-some-only d o p e =
     (λ h. let z : _≡_ {A = ℕ} 0 1 = cc (price-none d o (omega arith)) in absurd (omega arith))
     (λ h. h)
 
--- a clearing price is the price at the margin
-pub price-margin : (d : Demand) (o : Offers) (p : ℕ) → clearingPrice d o ≡ some p → marginPrice d o (clearedTotal d o) ≡ p
-price-margin d o p e = cc (price-some d o (price-some-only d o p e))
+-- a clearing price is the price at the margin of the cleared total
+pub price-marginPrice : (d : Demand) (o : Offers) (p : ℕ) → clearingPrice d o ≡ some p → marginPrice d o (clearedTotal d o) ≡ p
+price-marginPrice d o p e = cc (price-some d o (price-some-only d o p e))
 
--- the clearing price separates what clears of the cleared total from what does not
-pub price-separates : (d : Demand) (o : Offers) (p : ℕ) → Falling d →
-  clearingPrice d o ≡ some p → Separates d o (clearedTotal d o) p
-price-separates d o p falling e =
-    rw (← price-margin d o p e) (margin-separates d o (clearedTotal d o) falling (total-is-largest d o))
+-- the clearing price stands at the margin of the cleared total
+pub price-margin : (d : Demand) (o : Offers) (p : ℕ) → Falling d →
+    clearingPrice d o ≡ some p → Margin d o (clearedTotal d o) p
+price-margin d o p falling e =
+    rw (← price-marginPrice d o p e) (marginPrice-margin d o (clearedTotal d o) falling (total-is-largest d o))

@@ -24,8 +24,8 @@ leb-either : (a p : ℕ) → ltb a p || eqb a p ≡ leb a p
 leb-either a p =
     by-order p a
     (λ h. rw (le-ltb a p h) (by-order a p
-        (λ g. cc (eq-eqb a p (le-antisymm g h), le-leb a p g))
-        (λ g. cc (ne-eqb a p (λ e. omega arith), lt-leb a p g))))
+    (λ g. cc (eq-eqb a p (le-antisymm g h), le-leb a p g))
+    (λ g. cc (ne-eqb a p (λ e. omega arith), lt-leb a p g))))
     (λ h. rw (lt-ltb a p h, le-leb a p (le-of-lt h)))
 
 -- what is offered at a price or below is what is offered below it and its level
@@ -71,13 +71,6 @@ supply-all o p = sumWhere-all _ (o .quantity) (o .count)
 pub supply-place : (o : Offers) (p i : ℕ) → i < o .count → o .price i ≤ p → o .quantity i ≤ supply o p
 unfolding supply
 supply-place o p i l h = sumWhere-place _ (o .quantity) (o .count) i l (le-leb _ p h)
-
--- where something is offered at a price or below, there is such an offer
-pub supply-found : (o : Offers) (p : ℕ) → 0 < supply o p → (i : ℕ) × (i < o .count) × (o .price i ≤ p)
-unfolding supply
-supply-found o p h =
-    let r = sumWhere-found (λ i. leb (o .price i) p) (o .quantity) (o .count) h in
-    (r .0, r .1, leb-true _ p (r .2))
 
 -- where something is offered at exactly a price, there is such an offer
 pub levelSum-found : (o : Offers) (p : ℕ) → 0 < levelSum o p → (i : ℕ) × (i < o .count) × (o .price i ≡ p)

@@ -33,7 +33,7 @@ top-fails test top x e r =
     record {
       within = omega arith;
       passes = r .passes;
-      past = λ k l f. by-order k top (λ h. r .past k h f) (λ h. absurd (true≢false (cc (ap test (le-antisymm l h)))))
+      past = λ k l f. by-order k top (λ h. r .past k h f) (λ h. absurd (true≢false (cc (ap test (le-antisymm l h)))));
     }
 
 -- `largest` is the largest number that passes
@@ -53,7 +53,7 @@ largest-passes test top e =
 
 -- where every greater number fails, one that passes is no greater
 pub fails-past : (test : ℕ → Bool) (top x : ℕ) →
-  ((k : ℕ) → x < k → k ≤ top → test k ≡ false) → (k : ℕ) → k ≤ top → test k ≡ true → k ≤ x
+    ((k : ℕ) → x < k → k ≤ top → test k ≡ false) → (k : ℕ) → k ≤ top → test k ≡ true → k ≤ x
 fails-past test top x fails k l e = by-order k x (λ h. h) (λ h. absurd (true≢false (sym e ∙ fails k h l)))
 
 largest-order : (test : ℕ → Bool) (top x y : ℕ) → IsLargest test top x → IsLargest test top y → x ≤ y
@@ -72,7 +72,7 @@ Closed test top = (k : ℕ) → k < top → test (suc k) ≡ true → test k ≡
 
 -- a closed test passes at every number under one that passes
 pub closed-down : (test : ℕ → Bool) (top : ℕ) → Closed test top →
-  (j k : ℕ) → j ≤ k → k ≤ top → test k ≡ true → test j ≡ true
+    (j k : ℕ) → j ≤ k → k ≤ top → test k ≡ true → test j ≡ true
 closed-down test top c j zero h l e = cc (ap test (le-antisymm h (omega arith)))
 closed-down test top c j (suc k) h l e =
     by-order j k
@@ -81,13 +81,13 @@ closed-down test top c j (suc k) h l e =
 
 -- what a search by halves ends with: of a closed test, a number that passes while the next one fails is the largest
 pub largest-found : (test : ℕ → Bool) (top x : ℕ) → Closed test top →
-  x ≤ top → (0 < x → test x ≡ true) → (x < top → test (suc x) ≡ false) → x ≡ largest test top
+    x ≤ top → (0 < x → test x ≡ true) → (x < top → test (suc x) ≡ false) → x ≡ largest test top
 largest-found test top x c l e f =
     largest-alone test top x
     (record {
       within = l;
       passes = e;
       past = λ k m g.
-        by-order k x (λ h. h)
-        (λ h. absurd (true≢false (sym (closed-down test top c (suc x) k h m g) ∙ f (omega arith))))
+          by-order k x (λ h. h)
+          (λ h. absurd (true≢false (sym (closed-down test top c (suc x) k h m g) ∙ f (omega arith))));
     })

@@ -34,7 +34,7 @@ unfolding leastWhere
 leastWhere-zero test f = refl
 
 leastWhere-suc : (test : ℕ → Bool) (f : ℕ → ℕ) (n : ℕ) →
-  leastWhere test f (suc n) ≡ cond (test n) (some (lesser (f n) (leastWhere test f n))) (leastWhere test f n)
+    leastWhere test f (suc n) ≡ cond (test n) (some (lesser (f n) (leastWhere test f n))) (leastWhere test f n)
 unfolding leastWhere
 leastWhere-suc test f n = refl
 
@@ -47,7 +47,7 @@ module _ (test : ℕ → Bool) (f : ℕ → ℕ) (n : ℕ) where
         within = omega (arith, r .within);
         passes = r .passes;
         value = r .value;
-        lowest = up-to-last (λ i. test i ≡ true → m ≤ f i) n (r .lowest) h
+        lowest = up-to-last (λ i. test i ≡ true → m ≤ f i) n (r .lowest) h;
       }
 
   -- the next place is the least, where no other that passes has less
@@ -58,7 +58,7 @@ module _ (test : ℕ → Bool) (f : ℕ → ℕ) (n : ℕ) where
         within = le-refl (suc n);
         passes = e;
         value = refl;
-        lowest = up-to-last (λ i. test i ≡ true → f n ≤ f i) n h (λ t. le-refl (f n))
+        lowest = up-to-last (λ i. test i ≡ true → f n ≤ f i) n h (λ t. le-refl (f n));
       }
 
   next-fails : (rest : Option ℕ) → test n ≡ false → Least test f n rest → Least test f (suc n) rest

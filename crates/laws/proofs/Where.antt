@@ -19,7 +19,7 @@ sumWhere-zero test f = sumTo-zero (λ i. cond (test i) (f i) 0)
 
 -- one place more adds its value if it passes
 pub sumWhere-suc : (test : ℕ → Bool) (f : ℕ → ℕ) (n : ℕ) →
-  sumWhere test f (suc n) ≡ sumWhere test f n + cond (test n) (f n) 0
+    sumWhere test f (suc n) ≡ sumWhere test f n + cond (test n) (f n) 0
 unfolding sumWhere
 sumWhere-suc test f n = sumTo-suc (λ i. cond (test i) (f i) 0) n
 
@@ -31,13 +31,13 @@ cond-implied false t v h = omega arith
 
 -- where one test implies another, the sum under it is at most the sum under the other
 pub sumWhere-implied : (s t : ℕ → Bool) (f : ℕ → ℕ) (n : ℕ) →
-  ((i : ℕ) → i < n → s i ≡ true → t i ≡ true) → sumWhere s f n ≤ sumWhere t f n
+    ((i : ℕ) → i < n → s i ≡ true → t i ≡ true) → sumWhere s f n ≤ sumWhere t f n
 unfolding sumWhere
 sumWhere-implied s t f n h = sumTo-mono _ _ n (λ i l. cond-implied (s i) (t i) (f i) (h i l))
 
 -- two tests that agree at every place give one sum
 pub sumWhere-same : (s t : ℕ → Bool) (f : ℕ → ℕ) (n : ℕ) →
-  ((i : ℕ) → i < n → s i ≡ t i) → sumWhere s f n ≡ sumWhere t f n
+    ((i : ℕ) → i < n → s i ≡ t i) → sumWhere s f n ≡ sumWhere t f n
 unfolding sumWhere
 sumWhere-same s t f n h = sumTo-ext _ _ n (λ i l. ap (λ (b : Bool). cond b (f i) 0) (h i l))
 
@@ -49,8 +49,8 @@ cond-either false t v h = zero-add (cond t v 0)
 
 -- the places that pass either of two tests, of which never both hold, give both sums
 pub sumWhere-either : (s t : ℕ → Bool) (f : ℕ → ℕ) (n : ℕ) →
-  ((i : ℕ) → i < n → s i ≡ true → t i ≡ false) →
-  sumWhere s f n + sumWhere t f n ≡ sumWhere (λ i. s i || t i) f n
+    ((i : ℕ) → i < n → s i ≡ true → t i ≡ false) →
+    sumWhere s f n + sumWhere t f n ≡ sumWhere (λ i. s i || t i) f n
 unfolding sumWhere
 sumWhere-either s t f n h =
     sym (sumTo-add (λ i. cond (s i) (f i) 0) (λ i. cond (t i) (f i) 0) n)
@@ -58,7 +58,7 @@ sumWhere-either s t f n h =
 
 -- where no place passes, there is nothing to add
 pub sumWhere-none : (test : ℕ → Bool) (f : ℕ → ℕ) (n : ℕ) →
-  ((i : ℕ) → i < n → test i ≡ false) → sumWhere test f n ≡ 0
+    ((i : ℕ) → i < n → test i ≡ false) → sumWhere test f n ≡ 0
 unfolding sumWhere
 sumWhere-none test f n h = sumTo-none _ n (λ i l. cond-false (test i) (f i) 0 (h i l))
 
@@ -79,11 +79,11 @@ sumWhere-place test f n i l e =
 
 -- a sum that is not 0 has a place that passes
 pub sumWhere-found : (test : ℕ → Bool) (f : ℕ → ℕ) (n : ℕ) →
-  0 < sumWhere test f n → (i : ℕ) × (i < n) × (test i ≡ true)
+    0 < sumWhere test f n → (i : ℕ) × (i < n) × (test i ≡ true)
 sumWhere-found test f zero h = absurd (omega (arith, sumWhere-zero test f))
 sumWhere-found test f (suc n) h =
     by-test (test n)
     (λ e. (n, omega arith, e))
     (λ e.
-        let r = sumWhere-found test f n (omega (arith, sumWhere-suc test f n, cond-false (test n) (f n) 0 e)) in
-        (r .0, omega (arith, r .1), r .2))
+    let r = sumWhere-found test f n (omega (arith, sumWhere-suc test f n, cond-false (test n) (f n) 0 e)) in
+    (r .0, omega (arith, r .1), r .2))
