@@ -1,2 +1,6 @@
 pub mod Supply
 pub mod Ahead
+pub mod Total
+pub mod NextPrice
+pub mod Price
+pub mod Levels

@@ -1,7 +1,7 @@
 -- Laws of `sumWhere`, the sum over those places that pass a test.
 --
--- In order: one place more; a test that implies another; ordered summands; a test that is either of two; all places; one
--- place that passes; a sum that is not 0 has a place that passes.
+-- In order: one place more; a test that implies another; equal tests; a test that is either of two; no place that passes;
+-- all places; one place that passes; a sum that is not 0 has a place that passes.
 -- Assumes nothing.
 use mathlib.Core.Path.{_≡_, refl, sym, ap, _∙_}
 use mathlib.Core.Bool.{Bool, true, false, cond, _||_, true≢false, false≢true}
@@ -10,7 +10,7 @@ use native.Mathlib.Nat.{le-refl, zero-add, add-zero}
 use native.Mathlib.Omega.{arith}
 use Rattle.laws.specs.Sum.{sumTo, sumWhere}
 use Rattle.laws.proofs.Cases.{by-test, cond-true, cond-false}
-use Rattle.laws.proofs.Sums.{sumTo-zero, sumTo-suc, sumTo-ext, sumTo-mono, sumTo-add, sumTo-place}
+use Rattle.laws.proofs.Sums.{sumTo-zero, sumTo-suc, sumTo-ext, sumTo-mono, sumTo-add, sumTo-none, sumTo-place}
 
 -- no place, nothing to add
 pub sumWhere-zero : (test : ℕ → Bool) (f : ℕ → ℕ) → sumWhere test f 0 ≡ 0
@@ -55,6 +55,12 @@ unfolding sumWhere
 sumWhere-either s t f n h =
     sym (sumTo-add (λ i. cond (s i) (f i) 0) (λ i. cond (t i) (f i) 0) n)
     ∙ sumTo-ext _ _ n (λ i l. cond-either (s i) (t i) (f i) (h i l))
+
+-- where no place passes, there is nothing to add
+pub sumWhere-none : (test : ℕ → Bool) (f : ℕ → ℕ) (n : ℕ) →
+    ((i : ℕ) → i < n → test i ≡ false) → sumWhere test f n ≡ 0
+unfolding sumWhere
+sumWhere-none test f n h = sumTo-none _ n (λ i l. cond-false (test i) (f i) 0 (h i l))
 
 cond-at-most : (t : Bool) (v : ℕ) → cond t v 0 ≤ v
 cond-at-most true v = le-refl v
