@@ -1,2 +1,4 @@
 pub mod Cases
 pub mod Sums
+pub mod Loops
+pub mod Everys
