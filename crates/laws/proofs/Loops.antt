@@ -1,6 +1,6 @@
 -- What a loop that adds one summand a turn shows of its sum: where it begins, and after one more turn.
 -- Assumes nothing.
-use mathlib.Core.Path.{_≡_, sym, ap₂, _∙_}
+use mathlib.Core.Path.{_≡_, sym, ap₂}
 use Prim.Native.Nat.{ℕ, _+_}
 use native.Mathlib.Numerals.{add-one}
 use Rattle.laws.specs.Sum.{sumTo}
