@@ -42,7 +42,16 @@ pub fn opens_with(s: &[u8], letters: &[u8; 4]) -> bool
     requires { ⌜ 4 ≤ length (now s) ⌝ }
     ensures { λ r. ⌜ r ≡ opensWith (now (s .entry)) (now (letters .entry)) ⌝ }
 {
-    s[0] == letters[0] && s[1] == letters[1] && s[2] == letters[2] && s[3] == letters[3]
+    if s[0] != letters[0] {
+        return false;
+    }
+    if s[1] != letters[1] {
+        return false;
+    }
+    if s[2] != letters[2] {
+        return false;
+    }
+    s[3] == letters[3]
 }
 
 // Whether the n bytes from a place on are all zero. Their sum tells, with no branch in the loop.

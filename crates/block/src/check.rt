@@ -1,7 +1,8 @@
 // The two sums of a block and the check that they make.
-use crate::bytes::{u16_at, wide};
+use crate::bytes::u16_at;
+use crate::bytes::wide;
 ghost use mathlib.Core.Path.{_≡_};
-ghost use Prim.Native.Nat.{_≤_, _<_};
+ghost use Prim.Native.Nat.{_≤_};
 ghost use lib.ListN.{length};
 ghost use Rattle.block.specs.Check.{firstSum, secondSum, checkHolds};
 

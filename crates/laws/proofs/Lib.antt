@@ -9,3 +9,6 @@ pub mod Ranks
 pub mod Summands
 pub mod Division
 pub mod Remainders
+pub mod Loops
+pub mod Everys
+pub mod Altered
