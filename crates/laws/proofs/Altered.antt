@@ -22,8 +22,8 @@ sumTo-altered f g (suc n) i l h =
     by-order n i
     (λ p.
     let same : i ≡ n = omega arith in
-    omega
-    (arith, sumTo-suc f n, sumTo-suc g n, sumTo-ext f g n (λ j k. h j (λ e. omega arith)), ap f same, ap g same))
+    let front = sumTo-ext f g n (λ j k. h j (λ e. omega arith)) in
+    omega (arith, sumTo-suc f n, sumTo-suc g n, ap f same, ap g same))
     (λ p. omega (arith, sumTo-suc f n, sumTo-suc g n, sumTo-altered f g n i p h, h n (λ e. omega arith)))
 
 -- the sum of the first n elements, each weighed by its place

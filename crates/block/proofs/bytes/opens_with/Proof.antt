@@ -36,7 +36,11 @@ element-copy-out-if3 c = search needs
 returns-3 : tie.Need-returns-3
 unfolding opensWith
 returns-3 c =
-    rw (eq-eqb _ _ (c .before .before .before .before .before .before .if1 .left), eq-eqb _ _ (c .before .before .before .if2 .left), ne-eqb _ _ (c .if3 .taken))
+    rw (
+      eq-eqb _ _ (c .before .before .before .before .before .before .if1 .left),
+      eq-eqb _ _ (c .before .before .before .if2 .left),
+      ne-eqb _ _ (c .if3 .taken),
+    )
 
 shared-slice-read-result : tie.Need-shared-slice-read-result
 shared-slice-read-result c = search needs
@@ -47,7 +51,11 @@ element-copy-out-result c = search needs
 returns-4 : tie.Need-returns-4
 unfolding opensWith
 returns-4 c =
-    rw (eq-eqb _ _ (c .before .before .before .before .before .before .before .before .if1 .left), eq-eqb _ _ (c .before .before .before .before .before .if2 .left), eq-eqb _ _ (c .before .before .if3 .left))
+    rw (
+      eq-eqb _ _ (c .before .before .before .before .before .before .before .before .if1 .left),
+      eq-eqb _ _ (c .before .before .before .before .before .if2 .left),
+      eq-eqb _ _ (c .before .before .if3 .left),
+    )
 
 pub opens-with-spec : {M : Type 1} → statement M
 opens-with-spec =

@@ -1,8 +1,8 @@
 -- `check_holds` tells whether the last four bytes hold both sums: it compares what its callees ensure.
 -- Assumes nothing.
-use Rattle.block.specs.Check.{checkHolds}
 use borrow.Author.Needs.{needs}
 use borrow.Author.Tests.{eq-eqb, ne-eqb}
+use Rattle.block.specs.Check.{checkHolds}
 use Rattle.block.proofs.check.check_holds.Statement.{statement}
 use Rattle.block.proofs.check.check_holds.Tie as tie
 
@@ -21,7 +21,7 @@ u16-at-requires-2 c κs = search needs
 returns : tie.Need-returns
 unfolding checkHolds
 returns c =
-    simp (
+    rw (
       ← (c .before .before .before .before .first-sum .ensures),
       ← (c .before .before .before .u16-at .ensures .0),
       ← (c .before .second-sum .ensures),
@@ -32,7 +32,7 @@ returns c =
 returns-2 : tie.Need-returns-2
 unfolding checkHolds
 returns-2 c =
-    simp (
+    rw (
       ← (c .before .before .first-sum .ensures),
       ← (c .before .u16-at .ensures .0),
       ne-eqb _ _ (c .if1 .left),

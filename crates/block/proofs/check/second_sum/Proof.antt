@@ -33,7 +33,8 @@ wide-requires : tie.Need-wide-requires Inv-loop μ-loop
 wide-requires c κs = search needs
 
 -- a byte times its position is at most 255 × 508
-weighed-most : (c : tie.After-wide Inv-loop μ-loop) → c .wide .result * (c .before .before .before .loop .position + 1) ≤ 129540
+weighed-most :
+    (c : tie.After-wide Inv-loop μ-loop) → c .wide .result * (c .before .before .before .loop .position + 1) ≤ 129540
 weighed-most c = mul-le-mul {n₂ = 255} {m₂ = 508} (omega arith) (omega arith)
 
 mul-sum : tie.Need-mul-sum Inv-loop μ-loop
