@@ -1,0 +1,2 @@
+// What the rows of a book clear against the curve.
+pub mod supply;
