@@ -12,3 +12,4 @@ pub mod Remainders
 pub mod Loops
 pub mod Everys
 pub mod Altered
+pub mod Halving

@@ -3,7 +3,9 @@
 use Prim.Native.Nat.{ℕ, _≤_, _<_}
 use mathlib.Core.List.{List}
 use lib.ListN.{length, getD}
-use Rattle.auction.specs.Offers.{Offers}
+use lib.Dec.{leb}
+use Rattle.laws.specs.Largest.{largest}
+use Rattle.auction.specs.Offers.{Offers, supplyBelow}
 
 -- n rows in two lists: both are long enough, there are at most 600, and no quantity is over 200,000
 pub record Rows (prices quantities : List ℕ) (n : ℕ) : Type 0 where
@@ -22,3 +24,7 @@ listed prices quantities n =
       stamp = λ i. 0;
       resource = λ i. 0
     }
+
+-- the highest price up to 1,000,000 such that what is offered strictly below it is at most x
+unfoldable pub stopLevel : Offers → ℕ → ℕ
+stopLevel o x = largest (λ p. leb (supplyBelow o p) x) 1000000
