@@ -1,60 +1,67 @@
+-- `market::margin::stop_level` is the highest price under which no more than x is offered, by a search by halves.
+-- Assumes nothing.
+use mathlib.Core.Path.{_≡_, ap, sym, _∙_}
+use mathlib.Core.Bool.{Bool, true, false}
+use Prim.Native.Nat.{ℕ, suc, _-_, _≤_, _<_}
+use lib.Dec.{leb}
+use borrow.Author.Tests.{le-leb, lt-leb}
+use Rattle.laws.proofs.Halving.{Halving, halving-start, halving-passed, halving-failed, halving-met}
+use Rattle.auction.specs.Offers.{supplyBelow}
+use Rattle.auction.proofs.Supply.{supplyBelow-suc}
+use Rattle.market.specs.Rows.{listed, stopLevel}
+use Rattle.market.proofs.Stops.{stops, stops-passed, stops-failed, stops-closed}
 use native.Mathlib.Omega.{arith}
 use borrow.Author.Needs.{needs}
 use Rattle.market.proofs.margin.stop_level.Statement.{statement}
 use Rattle.market.proofs.margin.stop_level.Tie as tie
-use Rattle.market.proofs.margin.stop_level.Reads as reads
-use Rattle.market.proofs.margin.stop_level.Lts as lts
-use Rattle.market.proofs.supply.supply_at.Reads as supply-at-reads
 
 abbrev Inv-loop : tie.InvT-loop
-Inv-loop prices quantities n x low₀ high₀ low high = ?
+Inv-loop prices quantities n x low₀ high₀ low high = Halving (stops (listed prices quantities n) x) 1000000 low high
 
 abbrev μ-loop : tie.MeasureT-loop
-μ-loop prices quantities n x low₀ high₀ low high = ?
+μ-loop prices quantities n x low₀ high₀ low high = high - low
 
--- src/margin.rt:28:5
 loop-holds : tie.Need-loop-holds Inv-loop μ-loop
-loop-holds c = search needs
+loop-holds c = halving-start _ _
 
--- src/margin.rt:29:30
 sub-middle : tie.Need-sub-middle Inv-loop μ-loop
 sub-middle c = search needs
 
--- src/margin.rt:29:22
 sub-middle-2 : tie.Need-sub-middle-2 Inv-loop μ-loop
 sub-middle-2 c = search needs
 
--- src/margin.rt:30:45
 sub-supply-at : tie.Need-sub-supply-at Inv-loop μ-loop
 sub-supply-at c = search needs
 
--- src/margin.rt:30:12
 supply-at-requires : tie.Need-supply-at-requires Inv-loop μ-loop
 supply-at-requires c κs = search needs
 
--- src/margin.rt:28:5
 loop-less : tie.Need-loop-less Inv-loop μ-loop
 loop-less c = search needs
 
--- src/margin.rt:28:5
 loop-again : tie.Need-loop-again Inv-loop μ-loop
-loop-again c = search needs
+loop-again c =
+    let b = c .before .before .before in
+    halving-passed _ _ _ _ _ (b .loop .inv) (omega arith)
+    (stops-passed _ _ _ _ (omega arith) (c .before .supply-at .ensures .0) (c .if1 .taken))
 
--- src/margin.rt:33:20
 sub-high : tie.Need-sub-high Inv-loop μ-loop
 sub-high c = search needs
 
--- src/margin.rt:28:5
 loop-less-2 : tie.Need-loop-less-2 Inv-loop μ-loop
 loop-less-2 c = search needs
 
--- src/margin.rt:28:5
 loop-again-2 : tie.Need-loop-again-2 Inv-loop μ-loop
-loop-again-2 c = search needs
+loop-again-2 c =
+    let b = c .before .before .before in
+    halving-failed _ _ _ _ _ (b .loop .inv) (omega arith) (omega arith)
+    (stops-failed _ _ _ _ (omega arith) (c .before .supply-at .ensures .0) (c .if1 .left))
 
--- src/margin.rt:22:1
 returns : tie.Need-returns Inv-loop μ-loop
-returns c = search needs
+unfolding stopLevel
+returns c =
+    let h = c .before .loop .inv in
+    (halving-met _ _ _ _ (stops-closed _ _ _) h (c .loop-test .left), omega (arith, h .within, h .ordered))
 
 pub stop-level-spec : {M : Type 1} → statement M
 stop-level-spec =
