@@ -3,3 +3,5 @@ pub mod Total
 pub mod NextPrice
 pub mod Price
 pub mod Levels
+pub mod Optimal
+pub mod Best

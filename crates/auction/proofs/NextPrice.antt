@@ -12,7 +12,7 @@ use lib.Dec.{ltb}
 use borrow.Author.Tests.{ltb-true, ltb-false, lt-ltb}
 use Rattle.laws.proofs.Cases.{by-order}
 use Rattle.laws.proofs.Leasts.{Least, leastWhere-is}
-use Rattle.auction.specs.Offers.{Offers, supply, supplyBelow, levelSum}
+use Rattle.auction.specs.Offers.{Offers, supply, supplyBelow}
 use Rattle.auction.specs.Clearing.{nextPrice}
 use Rattle.auction.proofs.Supply.{supply-mono, supply-split, supplyBelow-zero, supplyBelow-suc, levelSum-found}
 

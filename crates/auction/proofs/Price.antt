@@ -3,9 +3,9 @@
 -- In order: the lesser of a price and the next price; the price at the margin of a total; the clearing price is the one at
 -- the margin of the cleared total, and there is none exactly when nothing clears.
 -- Assumes nothing.
-use mathlib.Core.Path.{_≡_, refl, sym, ap, _∙_}
+use mathlib.Core.Path.{_≡_}
 use mathlib.Core.Option.{Option, none, some}
-use Prim.Native.Nat.{ℕ, suc, _≤_, _<_}
+use Prim.Native.Nat.{ℕ, _≤_, _<_}
 use native.Mathlib.Nat.{le-refl, le-trans, ne-of-gt, not-le-of-lt}
 use native.Mathlib.Omega.{arith}
 use borrow.Author.Tests.{eq-eqb, ne-eqb}
@@ -27,8 +27,8 @@ lesser-under o x v none r p h = r p
 lesser-under o x v (some m) r p h = next-under o x m p r (omega arith)
 
 -- at each price over it, x is filled before
-lesser-over : (o : Offers) (x v : ℕ) (a : Option ℕ) → Next o x a → x ≤ supply o v →
-    (p : ℕ) → lesser v a < p → x ≤ supplyBelow o p
+lesser-over : (o : Offers) (x v : ℕ) (a : Option ℕ) → Next o x a → x ≤ supply o v
+    → (p : ℕ) → lesser v a < p → x ≤ supplyBelow o p
 lesser-over o x v none r s p h = le-trans s (supply-supplyBelow o v p h)
 lesser-over o x v (some m) r s p h =
     by-order v m
@@ -36,8 +36,8 @@ lesser-over o x v (some m) r s p h =
     (λ g. omega (arith, r .over, supply-supplyBelow o m p (omega arith)))
 
 -- a price no higher than v at which no more than x is offered is no higher than the lesser of both
-lesser-least : (o : Offers) (x v : ℕ) (a : Option ℕ) → Next o x a →
-    (p : ℕ) → p ≤ v → supply o p ≤ x → p ≤ lesser v a
+lesser-least : (o : Offers) (x v : ℕ) (a : Option ℕ) → Next o x a
+    → (p : ℕ) → p ≤ v → supply o p ≤ x → p ≤ lesser v a
 lesser-least o x v none r p l h = l
 lesser-least o x v (some m) r p l h =
     by-order p m (λ g. omega arith) (λ g. absurd (omega (arith, r .over, supply-mono o m p (omega arith))))
@@ -82,8 +82,8 @@ unfolding clearingPrice
 price-none d o e = cond-true _ none _ (eq-eqb _ 0 e)
 
 -- when something clears there is a price, the one at the margin
-pub price-some : (d : Demand) (o : Offers) → 0 < clearedTotal d o →
-    clearingPrice d o ≡ some (marginPrice d o (clearedTotal d o))
+pub price-some : (d : Demand) (o : Offers) → 0 < clearedTotal d o
+    → clearingPrice d o ≡ some (marginPrice d o (clearedTotal d o))
 unfolding clearingPrice marginPrice
 price-some d o l = cond-false _ none _ (ne-eqb (clearedTotal d o) 0 (ne-of-gt l))
 
@@ -102,11 +102,12 @@ price-some-only d o p e =
     (λ h. h)
 
 -- a clearing price is the price at the margin of the cleared total
-pub price-marginPrice : (d : Demand) (o : Offers) (p : ℕ) → clearingPrice d o ≡ some p → marginPrice d o (clearedTotal d o) ≡ p
+pub price-marginPrice : (d : Demand) (o : Offers) (p : ℕ) → clearingPrice d o ≡ some p
+    → marginPrice d o (clearedTotal d o) ≡ p
 price-marginPrice d o p e = cc (price-some d o (price-some-only d o p e))
 
 -- the clearing price stands at the margin of the cleared total
-pub price-margin : (d : Demand) (o : Offers) (p : ℕ) → Falling d →
-    clearingPrice d o ≡ some p → Margin d o (clearedTotal d o) p
+pub price-margin : (d : Demand) (o : Offers) (p : ℕ) → Falling d
+    → clearingPrice d o ≡ some p → Margin d o (clearedTotal d o) p
 price-margin d o p falling e =
     rw (← price-marginPrice d o p e) (marginPrice-margin d o (clearedTotal d o) falling (total-is-largest d o))

@@ -33,8 +33,8 @@ leastWhere-zero : (test : ℕ → Bool) (f : ℕ → ℕ) → leastWhere test f 
 unfolding leastWhere
 leastWhere-zero test f = refl
 
-leastWhere-suc : (test : ℕ → Bool) (f : ℕ → ℕ) (n : ℕ) →
-    leastWhere test f (suc n) ≡ cond (test n) (some (lesser (f n) (leastWhere test f n))) (leastWhere test f n)
+leastWhere-suc : (test : ℕ → Bool) (f : ℕ → ℕ) (n : ℕ)
+    → leastWhere test f (suc n) ≡ cond (test n) (some (lesser (f n) (leastWhere test f n))) (leastWhere test f n)
 unfolding leastWhere
 leastWhere-suc test f n = refl
 
@@ -89,4 +89,5 @@ pub least-alone : (test : ℕ → Bool) (f : ℕ → ℕ) (n : ℕ) (a b : Optio
 least-alone test f n none none r s = refl
 least-alone test f n none (some b) r s = absurd (true≢false (sym (s .passes) ∙ r (s .place) (s .within)))
 least-alone test f n (some a) none r s = absurd (true≢false (sym (r .passes) ∙ s (r .place) (r .within)))
-least-alone test f n (some a) (some b) r s = ap some (le-antisymm (least-order test f n a b r s) (least-order test f n b a s r))
+least-alone test f n (some a) (some b) r s =
+    ap some (le-antisymm (least-order test f n a b r s) (least-order test f n b a s r))

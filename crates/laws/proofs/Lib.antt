@@ -3,3 +3,4 @@ pub mod Sums
 pub mod Where
 pub mod Largests
 pub mod Leasts
+pub mod Compare
