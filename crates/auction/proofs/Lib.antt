@@ -5,3 +5,4 @@ pub mod Price
 pub mod Levels
 pub mod Optimal
 pub mod Best
+pub mod OneMore

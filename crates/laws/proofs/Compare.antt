@@ -1,7 +1,7 @@
 -- Two numbers, two sums and two products compared.
 --
--- In order: cases on two numbers; a sum of one number; sums of which one grows faster; ordered sums that are equal are
--- equal in each place; the greater factor goes with the greater amount.
+-- In order: cases on two numbers, and on the last place; a sum of one number; sums of which one grows faster; ordered sums
+-- that are equal are equal in each place; the greater factor goes with the greater amount.
 -- Assumes nothing.
 use mathlib.Core.Path.{_≡_, sym, ap, _∙_}
 use Prim.Native.Nat.{ℕ, zero, suc, _+_, _-_, _*_, _≤_, _<_}
@@ -11,11 +11,19 @@ use native.Mathlib.Omega.{arith}
 use Rattle.laws.specs.Sum.{sumTo}
 use Rattle.laws.proofs.Cases.{by-order}
 use Rattle.laws.proofs.Sums.{sumTo-zero, sumTo-suc, sumTo-mono}
-use Rattle.laws.proofs.Leasts.{up-to-last}
 
 -- less, equal or greater
 pub by-comparison {ℓ} : {X : Type ℓ} (a b : ℕ) → (a < b → X) → (a ≡ b → X) → (b < a → X) → X
 by-comparison a b f e g = by-order a b (λ h. by-order b a (λ k. e (le-antisymm h k)) f) g
+
+-- at most, unless it is greater
+pub le-unless : (a b : ℕ) → (b < a → ⊥) → a ≤ b
+le-unless a b refuted = by-order a b (λ h. h) (λ h. absurd (refuted h))
+
+-- what holds at n and at every place before it holds at every place before n + 1
+pub up-to-last {ℓ} : (P : ℕ → Type ℓ) (n : ℕ) → ((i : ℕ) → i < n → P i) → P n → (i : ℕ) → i < suc n → P i
+up-to-last P n before last i l =
+    by-order n i (λ h. rw (le-antisymm h (omega arith)) at last) (λ h. before i h)
 
 -- a number summed n times
 pub sumTo-const : (c n : ℕ) → sumTo (λ i. c) n ≡ c * n
@@ -54,7 +62,7 @@ mul-exchange p q x a h l = omega (arith, mul-split p q a h, mul-split p q x h, m
 
 -- with factors that differ, only then
 pub mul-exchange-only : (p q x a : ℕ) → q < p → p * a + q * x ≤ p * x + q * a → a ≤ x
-mul-exchange-only p q x a h e = by-order a x (λ l. l) (λ l. absurd (refuted (mul-lt-mul-of-pos-left l (omega arith))))
+mul-exchange-only p q x a h e = le-unless a x (λ l. refuted (mul-lt-mul-of-pos-left l (omega arith)))
   where
     refuted : (p - q) * x < (p - q) * a → ⊥
     refuted l = omega (arith, mul-split p q a (le-of-lt h), mul-split p q x (le-of-lt h))

@@ -7,6 +7,7 @@ use native.Mathlib.Nat.{le-antisymm, le-refl, not-suc-le-zero}
 use native.Mathlib.Omega.{arith}
 use Rattle.laws.specs.Largest.{largest}
 use Rattle.laws.proofs.Cases.{by-order, by-test, cond-true, cond-false}
+use Rattle.laws.proofs.Compare.{le-unless}
 
 largest-zero : (test : ℕ → Bool) → largest test 0 ≡ 0
 unfolding largest
@@ -54,7 +55,7 @@ largest-passes test top e =
 -- where every greater number fails, one that passes is no greater
 pub fails-past : (test : ℕ → Bool) (top x : ℕ)
     → ((k : ℕ) → x < k → k ≤ top → test k ≡ false) → (k : ℕ) → k ≤ top → test k ≡ true → k ≤ x
-fails-past test top x fails k l e = by-order k x (λ h. h) (λ h. absurd (true≢false (sym e ∙ fails k h l)))
+fails-past test top x fails k l e = le-unless k x (λ h. true≢false (sym e ∙ fails k h l))
 
 largest-order : (test : ℕ → Bool) (top x y : ℕ) → IsLargest test top x → IsLargest test top y → x ≤ y
 largest-order test top x y r s =
@@ -88,6 +89,5 @@ largest-found test top x c l e f =
       within = l;
       passes = e;
       past = λ k m g.
-          by-order k x (λ h. h)
-          (λ h. absurd (true≢false (sym (closed-down test top c (suc x) k h m g) ∙ f (omega arith))));
+          le-unless k x (λ h. true≢false (sym (closed-down test top c (suc x) k h m g) ∙ f (omega arith)));
     })

@@ -8,11 +8,7 @@ use native.Mathlib.Nat.{le-antisymm, le-of-lt, le-refl, min-eq-left, min-eq-righ
 use native.Mathlib.Omega.{arith}
 use Rattle.laws.specs.Largest.{leastWhere, lesser}
 use Rattle.laws.proofs.Cases.{by-order, by-test, cond-true, cond-false}
-
--- what holds at n and at every place before it holds at every place before n + 1
-pub up-to-last {ℓ} : (P : ℕ → Type ℓ) (n : ℕ) → ((i : ℕ) → i < n → P i) → P n → (i : ℕ) → i < suc n → P i
-up-to-last P n before last i l =
-    by-order n i (λ h. rw (le-antisymm h (omega arith)) at last) (λ h. before i h)
+use Rattle.laws.proofs.Compare.{up-to-last}
 
 -- the least value of f at those of the first n places that pass `test`
 pub record IsLeast (test : ℕ → Bool) (f : ℕ → ℕ) (n m : ℕ) : Type 0 where

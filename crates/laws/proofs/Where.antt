@@ -3,7 +3,7 @@
 -- In order: one place more; a test that implies another; equal tests; a test that is either of two; no place that passes;
 -- all places; summands that are 0 where the test fails; one place that passes; a sum that is not 0 has a place that passes.
 -- Assumes nothing.
-use mathlib.Core.Path.{_≡_, refl, sym, ap, _∙_}
+use mathlib.Core.Path.{_≡_, refl, sym, ap₂, _∙_}
 use mathlib.Core.Bool.{Bool, true, false, cond, _||_, true≢false, false≢true}
 use Prim.Native.Nat.{ℕ, zero, suc, _+_, _≤_, _<_}
 use native.Mathlib.Nat.{le-refl, zero-add, add-zero}
@@ -23,6 +23,10 @@ pub sumWhere-suc : (test : ℕ → Bool) (f : ℕ → ℕ) (n : ℕ)
 unfolding sumWhere
 sumWhere-suc test f n = sumTo-suc (λ i. cond (test i) (f i) 0) n
 
+-- one place more gives no less
+pub sumWhere-more : (test : ℕ → Bool) (f : ℕ → ℕ) (n : ℕ) → sumWhere test f n ≤ sumWhere test f (suc n)
+sumWhere-more test f n = omega (arith, sumWhere-suc test f n)
+
 -- a value that counts under one test counts under a test that it implies
 cond-implied : (s t : Bool) (v : ℕ) → (s ≡ true → t ≡ true) → cond s v 0 ≤ cond t v 0
 cond-implied true true v h = le-refl v
@@ -35,11 +39,16 @@ pub sumWhere-implied : (s t : ℕ → Bool) (f : ℕ → ℕ) (n : ℕ)
 unfolding sumWhere
 sumWhere-implied s t f n h = sumTo-mono _ _ n (λ i l. cond-implied (s i) (t i) (f i) (h i l))
 
+-- tests and values that agree at every place give one sum
+pub sumWhere-agree : (s t : ℕ → Bool) (f g : ℕ → ℕ) (n : ℕ)
+    → ((i : ℕ) → i < n → s i ≡ t i) → ((i : ℕ) → i < n → f i ≡ g i) → sumWhere s f n ≡ sumWhere t g n
+unfolding sumWhere
+sumWhere-agree s t f g n h k = sumTo-ext _ _ n (λ i l. ap₂ (λ (b : Bool) (v : ℕ). cond b v 0) (h i l) (k i l))
+
 -- two tests that agree at every place give one sum
 pub sumWhere-same : (s t : ℕ → Bool) (f : ℕ → ℕ) (n : ℕ)
     → ((i : ℕ) → i < n → s i ≡ t i) → sumWhere s f n ≡ sumWhere t f n
-unfolding sumWhere
-sumWhere-same s t f n h = sumTo-ext _ _ n (λ i l. ap (λ (b : Bool). cond b (f i) 0) (h i l))
+sumWhere-same s t f n h = sumWhere-agree s t f f n h (λ i l. refl)
 
 -- either of two tests, never both
 cond-either : (s t : Bool) (v : ℕ) → (s ≡ true → t ≡ false) → cond s v 0 + cond t v 0 ≡ cond (s || t) v 0
