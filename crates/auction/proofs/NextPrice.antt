@@ -1,6 +1,7 @@
 -- The next price: of all prices, the lowest at which more than x is offered.
 --
--- In order: what it is; that some offer has it; that it is alone; what is offered below it.
+-- In order: what it is; that `nextPrice` is it, though it looks at offers' prices only; that it is alone; what is offered
+-- below it and at it; how a search finds it.
 -- Assumes nothing.
 use mathlib.Core.Path.{_≡_, refl, ap, subst}
 use mathlib.Core.Bool.{false}
@@ -10,11 +11,14 @@ use native.Mathlib.Nat.{le-antisymm, le-refl, le-trans, le-step, le-of-eq, not-l
 use native.Mathlib.Omega.{arith}
 use lib.Dec.{ltb}
 use borrow.Author.Tests.{ltb-true, ltb-false, lt-ltb}
+use Rattle.laws.specs.Sum.{sumTo}
 use Rattle.laws.proofs.Cases.{by-order}
+use Rattle.laws.proofs.Compare.{le-unless}
 use Rattle.laws.proofs.Leasts.{Least, leastWhere-is}
-use Rattle.auction.specs.Offers.{Offers, supply, supplyBelow, levelSum}
+use Rattle.auction.specs.Offers.{Offers, supply, supplyBelow}
 use Rattle.auction.specs.Clearing.{nextPrice}
-use Rattle.auction.proofs.Supply.{supply-mono, supply-split, supplyBelow-zero, supplyBelow-suc, levelSum-found}
+use Rattle.auction.proofs.Supply.{supply-split, supply-all, supplyBelow-zero, supplyBelow-suc}
+use Rattle.auction.proofs.Supply.{supply-supplyBelow, levelSum-found}
 
 -- m is the lowest price at which more than x is offered
 pub record IsNext (o : Offers) (x m : ℕ) : Type 0 where
@@ -61,7 +65,7 @@ next-is o x = go (nextPrice o x) (leastWhere-is _ (o .price) (o .count))
     refuted p r w = not-le-of-lt (w .over) (ltb-false _ _ (r (w .row) (w .inside)))
 
     go : (a : Option ℕ) → Least (λ i. ltb x (supply o (o .price i))) (o .price) (o .count) a → Next o x a
-    go none r = λ p. by-order (supply o p) x (λ h. h) (λ h. absurd (refuted p r (offer-over o x p h)))
+    go none r = λ p. le-unless (supply o p) x (λ h. refuted p r (offer-over o x p h))
     go (some m) r = record {
       over = rw (← r .value) (ltb-true _ _ (r .passes));
       lowest = λ p h.
@@ -86,13 +90,20 @@ next-alone o x (some m) (some n) r s = ap some (le-antisymm (r .lowest n (s .ove
 
 -- below the next price no more than x is offered
 pub next-under : (o : Offers) (x m p : ℕ) → IsNext o x m → p < m → supply o p ≤ x
-next-under o x m p r l = by-order (supply o p) x (λ h. h) (λ h. absurd (omega (arith, r .lowest p h)))
+next-under o x m p r l = le-unless (supply o p) x (λ h. not-le-of-lt l (r .lowest p h))
 
 -- all that is offered strictly below the next price together is no more than x
 pub next-below : (o : Offers) (x m : ℕ) → IsNext o x m → supplyBelow o m ≤ x
 next-below o x zero r = omega (arith, supplyBelow-zero o)
 next-below o x (suc p) r = omega (arith, supplyBelow-suc o p, next-under o x (suc p) p r (le-refl (suc p)))
 
--- at the next price and over it, more than x is offered
-pub next-over : (o : Offers) (x m p : ℕ) → IsNext o x m → m ≤ p → x < supply o p
-next-over o x m p r l = omega (arith, r .over, supply-mono o m p l)
+-- what a search ends with: the price below which no more than x is offered, and at which more is, is the next price
+pub next-found : (o : Offers) (x m : ℕ) → supplyBelow o m ≤ x → x < supply o m → nextPrice o x ≡ some m
+next-found o x m b a = next-alone o x (nextPrice o x) (some m) (next-is o x) (record { over = a; lowest = lowest })
+  where
+    lowest : (p : ℕ) → x < supply o p → m ≤ p
+    lowest p h = le-unless m p (λ l. not-le-of-lt h (le-trans (supply-supplyBelow o p m l) b))
+
+-- or all quantities together are no more than x, and there is none
+pub next-absent : (o : Offers) (x : ℕ) → sumTo (o .quantity) (o .count) ≤ x → nextPrice o x ≡ none
+next-absent o x h = next-alone o x (nextPrice o x) none (next-is o x) (λ p. le-trans (supply-all o p) h)

@@ -46,15 +46,15 @@ total-alone d o x y r s =
     omega (arith, r .most y (s .within) (s .supplied), s .most x (r .within) (r .supplied))
 
 -- if the offers can supply a quantity, they can supply one tenth less
-pub supplied-down : (d : Demand) (o : Offers) → Falling d →
-    (k : ℕ) → k < d .last → Suppliable d o (suc k) → Suppliable d o k
+pub supplied-down : (d : Demand) (o : Offers) → Falling d
+    → (k : ℕ) → k < d .last → Suppliable d o (suc k) → Suppliable d o k
 unfolding Falling
 supplied-down d o falling k l h =
     omega (arith, supply-mono o (d .price (suc k)) (d .price k) (falling k (suc k) (le-suc k) l))
 
 -- what a search by halves ends with: a quantity that can be supplied while the next one cannot is the cleared total
-pub total-found : (d : Demand) (o : Offers) → Falling d →
-    (x : ℕ) → x ≤ d .last → Suppliable d o x → (x < d .last → supply o (d .price (suc x)) < suc x) → x ≡ clearedTotal d o
+pub total-found : (d : Demand) (o : Offers) → Falling d
+    → (x : ℕ) → x ≤ d .last → Suppliable d o x → (x < d .last → supply o (d .price (suc x)) < suc x) → x ≡ clearedTotal d o
 unfolding clearedTotal
 total-found d o falling x l h f =
     largest-found (supplies d o) (d .last) x
@@ -64,8 +64,8 @@ total-found d o falling x l h f =
     (λ m. lt-leb (suc x) _ (f m))
 
 -- past the total, no more than it is offered at the curve price
-pub supply-past-total : (d : Demand) (o : Offers) (x : ℕ) → Falling d → IsTotal d o x →
-    (k : ℕ) → x < k → k ≤ d .last → supply o (d .price k) ≤ x
+pub supply-past-total : (d : Demand) (o : Offers) (x : ℕ) → Falling d → IsTotal d o x
+    → (k : ℕ) → x < k → k ≤ d .last → supply o (d .price k) ≤ x
 unfolding Falling
 supply-past-total d o x falling t k h l =
     by-order (supply o (d .price (suc x))) x

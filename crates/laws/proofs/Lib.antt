@@ -13,3 +13,4 @@ pub mod Loops
 pub mod Everys
 pub mod Altered
 pub mod Halving
+pub mod Compare
