@@ -1,2 +1,5 @@
 pub mod Supply
 pub mod Ahead
+pub mod Levels
+pub mod ShareLaws
+pub mod Spares
