@@ -1,5 +1,5 @@
 pub mod Supply
 pub mod Ahead
-pub mod Levels
+pub mod LevelDivision
 pub mod ShareLaws
 pub mod Spares

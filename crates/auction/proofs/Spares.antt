@@ -7,6 +7,7 @@ use mathlib.Core.Path.{_≡_, refl, ap}
 use mathlib.Core.Bool.{true, _&&_}
 use mathlib.Core.Logic.{_↔_}
 use Prim.Native.Nat.{ℕ, suc, _+_, _*_, _≤_, _<_}
+use native.Mathlib.Nat.{div-add-mod', mod-lt}
 use native.Mathlib.Omega.{arith}
 use lib.Dec.{ltb, eqb}
 use borrow.Author.Tests.{eqb-true, eq-eqb, lt-ltb, ltb-true}
@@ -15,68 +16,63 @@ use Rattle.laws.proofs.Cases.{by-test, cond-false}
 use Rattle.laws.proofs.Counts.{countWhere-within}
 use Rattle.laws.proofs.Summands.{sumWhere-ext}
 use Rattle.laws.proofs.Ranks.{rank-less}
-use Rattle.laws.proofs.Division as division
-use Rattle.auction.specs.Offers.{Offers, Proper, levelSum}
-use Rattle.auction.specs.Shares.{levelAmount, shareDown, remainder, spareTenths, ahead, rank, cleared}
+use Rattle.laws.proofs.Division.{Division, sumOver, whole, partLeft}
+use Rattle.laws.proofs.Division.{partDown-most, spare-rest, spare-exact, spare-most}
+use Rattle.auction.specs.Offers.{Offers, levelSum}
+use Rattle.auction.specs.Shares.{levelAmount, weighted, shareDown, remainder, spareTenths, ahead, rank, cleared}
 use Rattle.auction.proofs.Ahead.{ahead-order}
-use Rattle.auction.proofs.Levels.{level, level-whole, level-down, level-left, level-rank, level-spare}
-use Rattle.auction.proofs.Levels.{levelAmount-most, levelSum-positive}
+use Rattle.auction.proofs.LevelDivision.{levelDivision, division-whole, division-down, division-downs}
+use Rattle.auction.proofs.LevelDivision.{division-left, division-rank, division-spare, levelAmount-most}
 
 module _ (o : Offers) (x : ℕ) where
   -- the part rounded down, times the level's sum, and the remainder are the quantity times the level's amount
-  pub shareDown-exact : (i : ℕ) →
-      shareDown o x i * levelSum o (o .price i) + remainder o x i ≡ o .quantity i * levelAmount o x (o .price i)
-  shareDown-exact i =
-      let p = o .price i in
-      rw (← level-whole o x p, ← level-down o x p i refl, ← level-left o x p i refl) (division.part-exact (level o x p) i)
+  pub shareDown-exact : (i : ℕ)
+      → shareDown o x i * levelSum o (o .price i) + remainder o x i ≡ o .quantity i * levelAmount o x (o .price i)
+  unfolding shareDown remainder weighted
+  shareDown-exact i = div-add-mod' _ _
 
+  -- a remainder is less than the level's sum
   pub remainder-less : (i : ℕ) → 0 < levelSum o (o .price i) → remainder o x i < levelSum o (o .price i)
-  remainder-less i some =
-      let p = o .price i in
-      rw (← level-whole o x p, ← level-left o x p i refl) (division.partLeft-less (level o x p) (rw level-whole some) i)
+  unfolding remainder
+  remainder-less i some = mod-lt _ some
 
   -- a part rounded down is at most the quantity
-  pub shareDown-most : Proper o → (i : ℕ) → i < o .count → shareDown o x i ≤ o .quantity i
-  shareDown-most proper i l =
-      let p = o .price i in
-      let some = levelSum-positive o i proper l in
-      rw (← level-down o x p i refl)
-      (division.partDown-most (level o x p) (rw level-whole some) (rw level-whole (levelAmount-most o x p)) i)
+  pub shareDown-most : (i : ℕ) → 0 < levelSum o (o .price i) → shareDown o x i ≤ o .quantity i
+  shareDown-most i some =
+      let d = levelDivision o x (o .price i) in
+      let most = levelAmount-most o x (o .price i) in
+      rw (← division-down o x _ i refl) (partDown-most d (rw division-whole some) (rw division-whole most) i)
 
-  abbrev sumLevel : ℕ → (ℕ → ℕ) → ℕ
-  sumLevel p f = sumWhere (λ i. eqb (o .price i) p) f (o .count)
+  module _ (p : ℕ) (some : 0 < levelSum o p) where
+    abbrev division : Division
+    division = levelDivision o x p
 
-  level-downs : (p : ℕ) → sumLevel p (division.partDown (level o x p)) ≡ sumLevel p (shareDown o x)
-  level-downs p = sumWhere-ext _ _ _ (o .count) (λ i l t. level-down o x p i (eqb-true (o .price i) p t))
+    positive : 0 < whole division
+    positive = rw division-whole some
 
-  level-lefts : (p : ℕ) → sumLevel p (division.partLeft (level o x p)) ≡ sumLevel p (remainder o x)
-  level-lefts p = sumWhere-ext _ _ _ (o .count) (λ i l t. level-left o x p i (eqb-true (o .price i) p t))
+    same-left : (i : ℕ) → eqb (o .price i) p ≡ true → partLeft division i ≡ remainder o x i
+    same-left i t = division-left o x p i (eqb-true (o .price i) p t)
 
-  level-counts : (p : ℕ)
-      → countWhere (λ i. eqb (o .price i) p && ltb 0 (division.partLeft (level o x p) i)) (o .count)
-      ≡ countWhere (λ i. eqb (o .price i) p && ltb 0 (remainder o x i)) (o .count)
-  level-counts p =
-      countWhere-within _ _ _ (o .count)
-      (λ i l t. ap (ltb 0) (level-left o x p i (eqb-true (o .price i) p t)))
+    lefts : sumOver division (partLeft division) ≡ sumOver division (remainder o x)
+    lefts = sumWhere-ext _ _ _ (o .count) (λ i l t. same-left i t)
 
-  -- the parts rounded down and the spare tenths make up the level's amount
-  pub spares-rest : (p : ℕ) → 0 < levelSum o p
-      → sumWhere (λ i. eqb (o .price i) p) (shareDown o x) (o .count) + spareTenths o x p ≡ levelAmount o x p
-  spares-rest p some =
-      rw (← level-downs p, ← level-spare o x p) (division.spare-rest (level o x p) (rw level-whole some))
+    counts : countWhere (λ i. eqb (o .price i) p && ltb 0 (partLeft division i)) (o .count)
+        ≡ countWhere (λ i. eqb (o .price i) p && ltb 0 (remainder o x i)) (o .count)
+    counts = countWhere-within _ _ _ (o .count) (λ i l t. ap (ltb 0) (same-left i t))
 
-  -- the spare tenths are what the remainders come to
-  pub spares-exact : (p : ℕ) → 0 < levelSum o p
-      → spareTenths o x p * levelSum o p ≡ sumWhere (λ i. eqb (o .price i) p) (remainder o x) (o .count)
-  spares-exact p some =
-      rw (← level-lefts p, ← level-spare o x p, ← level-whole o x p)
-      (division.spare-exact (level o x p) (rw level-whole some))
+    -- the parts rounded down and the spare tenths make up the level's amount
+    pub spares-rest :
+        sumWhere (λ i. eqb (o .price i) p) (shareDown o x) (o .count) + spareTenths o x p ≡ levelAmount o x p
+    spares-rest = rw (← division-downs o x p, ← division-spare o x p) (spare-rest division positive)
 
-  -- no more tenths are spare than offers of the level have a remainder
-  pub spares-most : (p : ℕ) → 0 < levelSum o p
-      → spareTenths o x p ≤ countWhere (λ i. eqb (o .price i) p && ltb 0 (remainder o x i)) (o .count)
-  spares-most p some =
-      rw (← level-counts p, ← level-spare o x p) (division.spare-most (level o x p) (rw level-whole some))
+    -- the spare tenths are what the remainders come to
+    pub spares-exact :
+        spareTenths o x p * levelSum o p ≡ sumWhere (λ i. eqb (o .price i) p) (remainder o x) (o .count)
+    spares-exact = rw (← lefts, ← division-spare o x p, ← division-whole o x p) (spare-exact division positive)
+
+    -- no more tenths are spare than offers of the level have a remainder
+    pub spares-most : spareTenths o x p ≤ countWhere (λ i. eqb (o .price i) p && ltb 0 (remainder o x i)) (o .count)
+    spares-most = rw (← counts, ← division-spare o x p) (spare-most division positive)
 
   spare-got : (i : ℕ) → cleared o x i ≡ suc (shareDown o x i) → rank o x i < spareTenths o x (o .price i)
   unfolding cleared
@@ -99,6 +95,6 @@ module _ (o : Offers) (x : ℕ) where
   spares-in-order i j l same b e =
       let p = o .price i in
       let within = eq-eqb (o .price j) p same in
-      let before = rank-less (level o x p .within) (ahead o x) (ahead-order o x) (o .count) j i l within b in
+      let before = rank-less (levelDivision o x p .within) (ahead o x) (ahead-order o x) (o .count) j i l within b in
       spare-given j
-      (omega (arith, spare-got i e, level-rank o x p i refl, level-rank o x p j same, ap (spareTenths o x) same))
+      (omega (arith, spare-got i e, division-rank o x p i refl, division-rank o x p j same, ap (spareTenths o x) same))

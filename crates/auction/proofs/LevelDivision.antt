@@ -12,7 +12,7 @@ use lib.Dec.{eqb}
 use borrow.Author.Tests.{eqb-true, eq-eqb}
 use Rattle.laws.proofs.Where.{sumWhere-place}
 use Rattle.laws.proofs.Summands.{sumWhere-ext}
-use Rattle.laws.proofs.Division.{Division, whole, partDown, partLeft, spare}
+use Rattle.laws.proofs.Division.{Division, sumOver, whole, partDown, partLeft, spare}
 use Rattle.laws.proofs.Ranks.{rankAmong}
 use Rattle.laws.proofs.Remainders.{share, LargestFirst}
 use Rattle.auction.specs.Offers.{Offers, Proper, levelSum}
@@ -20,8 +20,8 @@ use Rattle.auction.specs.Shares.{levelAmount, weighted, shareDown, remai
 use Rattle.auction.proofs.Ahead.{ahead-order, ahead-untied, ahead-larger}
 
 -- the offers at p divide the level's amount by their quantities
-abbrev pub level : Offers → ℕ → ℕ → Division
-level o x p =
+abbrev pub levelDivision : Offers → ℕ → ℕ → Division
+levelDivision o x p =
     record {
       within = λ i. eqb (o .price i) p;
       weight = o .quantity;
@@ -31,44 +31,47 @@ level o x p =
 
 -- at an offer's own price, the division's terms are those of the definitions
 module _ (o : Offers) (x p i : ℕ) (at : o .price i ≡ p) where
-  pub level-down : partDown (level o x p) i ≡ shareDown o x i
+  pub division-down : partDown (levelDivision o x p) i ≡ shareDown o x i
   unfolding partDown whole shareDown weighted levelSum
-  level-down = rw (← at)
+  division-down = rw (← at)
 
-  pub level-left : partLeft (level o x p) i ≡ remainder o x i
+  pub division-left : partLeft (levelDivision o x p) i ≡ remainder o x i
   unfolding partLeft whole remainder weighted levelSum
-  level-left = rw (← at)
+  division-left = rw (← at)
 
-  pub level-rank : rankAmong (level o x p .within) (ahead o x) (o .count) i ≡ rank o x i
+  pub division-rank : rankAmong (levelDivision o x p .within) (ahead o x) (o .count) i ≡ rank o x i
   unfolding rank
-  level-rank = rw (← at)
+  division-rank = rw (← at)
 
-pub level-spare : (o : Offers) (x p : ℕ) → spare (level o x p) ≡ spareTenths o x p
+pub division-downs : (o : Offers) (x p : ℕ)
+    → sumOver (levelDivision o x p) (partDown (levelDivision o x p)) ≡ sumOver (levelDivision o x p) (shareDown o x)
+division-downs o x p = sumWhere-ext _ _ _ (o .count) (λ i l t. division-down o x p i (eqb-true (o .price i) p t))
+
+pub division-spare : (o : Offers) (x p : ℕ) → spare (levelDivision o x p) ≡ spareTenths o x p
 unfolding spare spareTenths
-level-spare o x p =
-    let parts = sumWhere-ext _ _ _ (o .count) (λ i l t. level-down o x p i (eqb-true (o .price i) p t)) in
-    ap (λ (s : ℕ). levelAmount o x p - s) parts
+division-spare o x p = ap (λ (s : ℕ). levelAmount o x p - s) (division-downs o x p)
 
-pub level-share : (o : Offers) (x p i : ℕ) → o .price i ≡ p → share (level o x p) (ahead o x) i ≡ cleared o x i
+pub division-share : (o : Offers) (x p i : ℕ) → o .price i ≡ p
+    → share (levelDivision o x p) (ahead o x) i ≡ cleared o x i
 unfolding share cleared
-level-share o x p i at = rw (level-down o x p i at, level-rank o x p i at, level-spare o x p, at)
+division-share o x p i at = rw (division-down o x p i at, division-rank o x p i at, division-spare o x p, at)
 
-level-larger : (o : Offers) (x p i j : ℕ) → o .price i ≡ p → o .price j ≡ p
-    → partLeft (level o x p) i < partLeft (level o x p) j → ahead o x j i ≡ true
-level-larger o x p i j v w l = ahead-larger o x i j (omega (arith, level-left o x p i v, level-left o x p j w))
+division-larger : (o : Offers) (x p i j : ℕ) → o .price i ≡ p → o .price j ≡ p
+    → partLeft (levelDivision o x p) i < partLeft (levelDivision o x p) j → ahead o x j i ≡ true
+division-larger o x p i j v w l = ahead-larger o x i j (omega (arith, division-left o x p i v, division-left o x p j w))
 
 -- the order of spare tenths is an order that the division may go by
-pub level-first : (o : Offers) (x p : ℕ) → Proper o → LargestFirst (level o x p) (ahead o x)
-level-first o x p proper =
+pub division-first : (o : Offers) (x p : ℕ) → Proper o → LargestFirst (levelDivision o x p) (ahead o x)
+division-first o x p proper =
     record {
       order = ahead-order o x;
       untied = ahead-untied o x _ proper;
-      larger = λ i j v w. level-larger o x p i j (eqb-true (o .price i) p v) (eqb-true (o .price j) p w);
+      larger = λ i j v w. division-larger o x p i j (eqb-true (o .price i) p v) (eqb-true (o .price j) p w);
     }
 
-pub level-whole : (o : Offers) (x p : ℕ) → whole (level o x p) ≡ levelSum o p
+pub division-whole : (o : Offers) (x p : ℕ) → whole (levelDivision o x p) ≡ levelSum o p
 unfolding whole levelSum
-level-whole o x p = refl
+division-whole o x p = refl
 
 -- a level receives no more than its sum
 pub levelAmount-most : (o : Offers) (x p : ℕ) → levelAmount o x p ≤ levelSum o p
