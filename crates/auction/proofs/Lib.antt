@@ -7,3 +7,6 @@ pub mod Levels
 pub mod Optimal
 pub mod Best
 pub mod OneMore
+pub mod LevelDivision
+pub mod ShareLaws
+pub mod Spares

@@ -1,7 +1,7 @@
 -- What rounding down leaves of a divided amount goes one each to the places with the largest remainders.
 --
--- In order: a place's share; the order; the shares add up; who gets one more has a remainder; a share is at most the exact
--- part rounded up, and at most the weight; who stands first gets one more first; an amount of all weights.
+-- In order: a place's share, and the order; the shares add up; who gets one more has a remainder; a share is at most the
+-- exact part rounded up, and at most the weight; an amount of all weights.
 -- Assumes nothing.
 use mathlib.Core.Path.{_≡_}
 use mathlib.Core.Bool.{Bool, true, cond, _&&_}
@@ -16,9 +16,9 @@ use Rattle.laws.proofs.Cases.{by-order, by-test, cond-true, cond-false,
 use Rattle.laws.proofs.Counts.{countWhere-mono}
 use Rattle.laws.proofs.Summands.{sumWhere-add, sumWhere-ones}
 use Rattle.laws.proofs.Orders.{StrictOrder}
-use Rattle.laws.proofs.Ranks.{rankAmong, NoTies, rank-less, ranks-fill}
-use Rattle.laws.proofs.Division.{Division, sumOver, whole, partDown, partLeft, spare, part-exact}
-use Rattle.laws.proofs.Division.{partDown-most, partDown-room, partDown-whole, partDown-none, spare-rest, spare-most}
+use Rattle.laws.proofs.Ranks.{rankAmong, NoTies, ranks-fill}
+use Rattle.laws.proofs.Division.{Division, sumOver, whole, partDown, partLeft, spare, spare-rest, spare-most}
+use Rattle.laws.proofs.Division.{part-exact, partDown-most, partDown-room, partDown-whole, partDown-none}
 
 -- a place's share: its part rounded down, and one more where fewer stand before it than are spare
 unfoldable pub share : Division → (ℕ → ℕ → Bool) → ℕ → ℕ
@@ -102,11 +102,6 @@ module _ (d : Division) (before : ℕ → ℕ → Bool) (some : 0 < whole d) (fi
       (λ e. omega (arith, partDown-most d some most i))
       (λ e. omega (arith, partDown-room d most i (e .1)))
       (share-cases i w)
-
-  -- of two places, the one that stands before gets one more if the other does
-  pub spare-in-order : (i j : ℕ) → j < d .places → d .within j ≡ true → before j i ≡ true
-      → rank i < spare d → rank j < spare d
-  spare-in-order i j l w b h = omega (arith, rank-less (d .within) before (first .order) (d .places) j i l w b)
 
   -- all weights together divide into the weights
   pub share-whole : d .amount ≡ whole d → (i : ℕ) → d .within i ≡ true → share d before i ≡ d .weight i
