@@ -1,3 +1,5 @@
 pub mod Cases
 pub mod Sums
+pub mod Quotients
 pub mod Nearests
+pub mod Pieces

@@ -8,6 +8,7 @@ use Prim.Native.Nat.{ℕ, suc, _+_, _*_, _/_, _≤_, _<_}
 use native.Mathlib.Nat.{le-div-iff-mul-le, div-lt-iff-lt-mul, div-mul-le-self, lt-div-mul-add, le-antisymm}
 use native.Mathlib.Omega.{arith}
 use Rattle.laws.specs.Nearest.{nearest}
+use Rattle.laws.proofs.Quotients.{div-mono}
 
 -- the nearest of n / d is over n / d by at most a half
 pub nearest-over : (n d : ℕ) → 2 * (nearest n d * d) ≤ 2 * n + d
@@ -37,7 +38,8 @@ nearest-multiple m d p =
 
 -- a larger numerator gives no less
 pub nearest-mono : (m n d : ℕ) → 0 < d → m ≤ n → nearest m d ≤ nearest n d
-nearest-mono m n d p h = nearest-least (nearest m d) n d p (omega (arith, nearest-over m d))
+unfolding nearest
+nearest-mono m n d p h = div-mono (2 * m + d) (2 * n + d) (2 * d) (omega arith) (omega arith)
 
 -- a numerator larger by the divisor gives more
 pub nearest-grows : (m n d : ℕ) → 0 < d → m + d ≤ n → nearest m d < nearest n d
