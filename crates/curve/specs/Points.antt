@@ -34,7 +34,7 @@ curveOf w whole t =
       p2 = record { 0 = secondPrice w t };
       q1 = quantityAt t (whole - w .under) whole;
       q2 = quantityAt t (whole + w .over) whole;
-      q3 = quantityAt t (whole + w .last) whole
+      q3 = quantityAt t (whole + w .last) whole;
     }
 
 -- terms within the ranges of the outline

@@ -1,9 +1,12 @@
 // The Variable Resource Requirement curve: its three points and its price at a quantity.
-use units::{CentsPerMwDay, DollarsPerMwYear};
+use units::CentsPerMwDay;
+use units::DollarsPerMwYear;
 ghost use mathlib.Core.Path.{_≡_};
-ghost use Prim.Native.Nat.{_≤_};
-ghost use Rattle.curve.specs.Points.{InRange, curveOf};
-ghost use Rattle.curve.specs.Price.{curvePrice};
+ghost use Prim.Native.Nat.{_*_, _≤_, _<_};
+ghost use Rattle.laws.specs.Nearest.{nearest};
+ghost use Rattle.curve.specs.Points.{InRange, netCost, firstPrice, curveOf};
+ghost use Rattle.curve.specs.Shape.{Usable, Shaped, curve2026};
+ghost use Rattle.curve.specs.Price.{line, curvePrice};
 
 // What the region's curve is made from, every value given and in range.
 pub struct Terms {
@@ -55,26 +58,72 @@ pub enum CurvePrice {
     NoPrice,
 }
 
+// The requirement times weight / whole, to the nearest tenth.
+fn quantity(requirement: u32, weight: u32, whole: u32) -> u32
+    requires { ⌜ (requirement ≤ 2000000) × (10 * weight ≤ 11 * whole) × (0 < whole) ⌝ }
+    ensures { λ r. ⌜ r ≡ nearest (requirement * weight) whole ⌝ }
+{
+    let exact = requirement as u64 * weight as u64;
+    let over = whole as u64;
+    let tenths = (2 * exact + over) / (2 * over);
+    tenths as u32
+}
+
+// C minus E.
+fn net_cost(t: Terms) -> DollarsPerMwYear
+    requires { ⌜ InRange t ⌝ }
+    ensures { λ r. ⌜ r .0 ≡ netCost t ⌝ }
+{
+    let cost = t.cost;
+    let offset = t.offset;
+    DollarsPerMwYear(cost.0 - offset.0)
+}
+
+// P1: the greater of C and the first weight times the net cost, by the day.
+fn first_price(w: Weights, t: Terms) -> CentsPerMwDay
+    requires { ⌜ (w .first ≤ 7) × InRange t ⌝ }
+    ensures { λ r. ⌜ r .0 ≡ firstPrice w t ⌝ }
+{
+    let cost = t.cost;
+    let net = net_cost(t);
+    if cost.0 * 4 < net.0 * w.first {
+        units::daily(net, w.first, t.outage)
+    } else {
+        units::daily(cost, 4, t.outage)
+    }
+}
+
 // The curve of a region by the weights of an edition, `whole` being 100 percent in hundredths of a percent.
 pub fn points(w: Weights, whole: u32, t: Terms) -> Curve
     requires { ⌜ Usable w whole × InRange t ⌝ }
     ensures { λ r. ⌜ (r ≡ curveOf w whole t) × Shaped r ⌝ }
 {
-    let net = DollarsPerMwYear(t.cost.0 - t.offset.0);
-    let gross = t.cost;
-    let p1 = if gross.0 * 4 < net.0 * w.first {
-        units::daily(net, w.first, t.outage)
-    } else {
-        units::daily(gross, 4, t.outage)
-    };
-    let p2 = units::daily(net, w.second, t.outage);
     Curve {
-        p1,
-        p2,
+        p1: first_price(w, t),
+        p2: units::daily(net_cost(t), w.second, t.outage),
         q1: quantity(t.requirement, whole - w.under, whole),
         q2: quantity(t.requirement, whole + w.over, whole),
         q3: quantity(t.requirement, whole + w.last, whole),
     }
+}
+
+// The curve of a region in a delivery year from 2026 on.
+pub fn points_2026(t: Terms) -> Curve
+    requires { ⌜ InRange t ⌝ }
+    ensures { λ r. ⌜ (r ≡ curve2026 t) × Shaped r ⌝ }
+{
+    points(Weights::Y2026, WHOLE, t)
+}
+
+// The price on the line from (qa, pa) to (qb, pb) at k, rounded down.
+fn between(pa: u32, pb: u32, qa: u32, qb: u32, k: u32) -> u32
+    requires { ⌜ (pb ≤ pa) × (qa < k) × (k ≤ qb) ⌝ }
+    ensures { λ r. ⌜ r ≡ line pa pb qa qb k ⌝ }
+{
+    let before = pa as u64 * (qb - k) as u64;
+    let after = pb as u64 * (k - qa) as u64;
+    let cents = (before + after) / (qb - qa) as u64;
+    cents as u32
 }
 
 // The price at a quantity, or that there is none.
@@ -82,14 +131,16 @@ pub fn price_at(c: Curve, k: u32) -> CurvePrice
     requires { ⌜ Shaped c ⌝ }
     ensures { λ r. ⌜ r ≡ curvePrice c k ⌝ }
 {
+    let p1 = c.p1;
+    let p2 = c.p2;
     if k <= c.q1 {
-        return CurvePrice::Price(c.p1);
+        return CurvePrice::Price(p1);
     }
     if k <= c.q2 {
-        return CurvePrice::Price(CentsPerMwDay(between(c.p1.0, c.p2.0, c.q1, c.q2, k)));
+        return CurvePrice::Price(CentsPerMwDay(between(p1.0, p2.0, c.q1, c.q2, k)));
     }
     if k <= c.q3 {
-        return CurvePrice::Price(CentsPerMwDay(between(c.p2.0, 0, c.q2, c.q3, k)));
+        return CurvePrice::Price(CentsPerMwDay(between(p2.0, 0, c.q2, c.q3, k)));
     }
     CurvePrice::NoPrice
 }

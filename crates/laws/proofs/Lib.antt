@@ -14,3 +14,6 @@ pub mod Everys
 pub mod Altered
 pub mod Halving
 pub mod Compare
+pub mod Quotients
+pub mod Nearests
+pub mod Pieces
