@@ -1,7 +1,7 @@
 -- The test of which `stopLevel` is the largest price that passes: no more than x is offered strictly below it.
 --
 -- In order: the test; the same by what is offered one cent lower, for a price that passes and one that fails; it is closed
--- downward.
+-- downward; so no more than x is offered strictly below the level at which x stops.
 -- Assumes nothing.
 use mathlib.Core.Path.{_≡_, ap, sym, _∙_}
 use mathlib.Core.Bool.{Bool, true, false}
@@ -9,9 +9,10 @@ use Prim.Native.Nat.{ℕ, suc, _-_, _≤_, _<_}
 use native.Mathlib.Omega.{arith}
 use lib.Dec.{leb}
 use borrow.Author.Tests.{le-leb, lt-leb, leb-true}
-use Rattle.laws.proofs.Largests.{Closed}
+use Rattle.laws.proofs.Largests.{Closed, largest-passes}
 use Rattle.auction.specs.Offers.{Offers, supply, supplyBelow}
-use Rattle.auction.proofs.Supply.{supplyBelow-suc, supplyBelow-mono}
+use Rattle.auction.proofs.Supply.{supplyBelow-zero, supplyBelow-suc, supplyBelow-mono}
+use Rattle.market.specs.Stop.{stopLevel}
 
 abbrev pub stops : Offers → ℕ → ℕ → Bool
 stops o x p = leb (supplyBelow o p) x
@@ -29,3 +30,9 @@ stops-failed o x p s h e l = lt-leb (supplyBelow o p) x (omega (arith, below-les
 pub stops-closed : (o : Offers) (x top : ℕ) → Closed (stops o x) top
 stops-closed o x top k l e =
     le-leb (supplyBelow o k) x (omega (arith, leb-true (supplyBelow o (suc k)) x e, supplyBelow-mono o k (suc k) (omega arith)))
+
+pub stop-below : (o : Offers) (x : ℕ) → supplyBelow o (stopLevel o x) ≤ x
+unfolding stopLevel
+stop-below o x =
+    leb-true (supplyBelow o (stopLevel o x)) x
+    (largest-passes (stops o x) 1000000 (le-leb (supplyBelow o 0) x (omega (arith, supplyBelow-zero o))))

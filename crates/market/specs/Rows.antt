@@ -1,18 +1,19 @@
--- Offers whose prices and quantities stand in two lists.
+-- Offers as lists hold them: prices and quantities, and for the order of spare tenths the two halves of the time stamps and
+-- the resource numbers.
 -- Assumes nothing.
-use Prim.Native.Nat.{ℕ, _≤_, _<_}
+use Prim.Native.Nat.{ℕ, _+_, _*_, _≤_, _<_}
 use mathlib.Core.List.{List}
 use lib.ListN.{length, getD}
-use lib.Dec.{leb}
-use Rattle.laws.specs.Largest.{largest}
-use Rattle.auction.specs.Offers.{Offers, supplyBelow}
+use Rattle.auction.specs.Offers.{Offers}
 
--- n rows in two lists: both are long enough, there are at most 600, and no quantity is over 200,000
+-- n rows in two lists: both are long enough, there are at most 600, no quantity is over 200,000 and
+-- no price over 1,000,000
 pub record Rows (prices quantities : List ℕ) (n : ℕ) : Type 0 where
   pub priced : n ≤ length prices
   pub sized : n ≤ length quantities
   pub few : n ≤ 600
   pub small : (i : ℕ) → i < n → getD quantities i 0 ≤ 200000
+  pub cheap : (i : ℕ) → i < n → getD prices i 0 ≤ 1000000
 
 -- the offers of two lists; the total and the price look at no stamp and no resource number
 abbrev pub listed : List ℕ → List ℕ → ℕ → Offers
@@ -25,6 +26,13 @@ listed prices quantities n =
       resource = λ i. 0
     }
 
--- the highest price up to 1,000,000 such that what is offered strictly below it is at most x
-unfoldable pub stopLevel : Offers → ℕ → ℕ
-stopLevel o x = largest (λ p. leb (supplyBelow o p) x) 1000000
+-- the offers of five lists; a time stamp is its high half times 2 ^ 32 and its low half
+abbrev pub rowsOf : List ℕ → List ℕ → List ℕ → List ℕ → List ℕ → ℕ → Offers
+rowsOf prices quantities highs lows resources n =
+    record {
+      count = n;
+      price = λ i. getD prices i 0;
+      quantity = λ i. getD quantities i 0;
+      stamp = λ i. getD highs i 0 * 4294967296 + getD lows i 0;
+      resource = λ i. getD resources i 0
+    }

@@ -2,10 +2,18 @@
 use crate::supply::supply_at;
 ghost use mathlib.Core.Path.{_≡_};
 ghost use Prim.Native.Nat.{_≤_};
-ghost use lib.Dec.{leb};
-ghost use Rattle.laws.specs.Largest.{largest};
 ghost use Rattle.auction.specs.Offers.{supplyBelow};
-ghost use Rattle.market.specs.Rows.{Rows, listed, stopLevel};
+ghost use Rattle.market.specs.Rows.{Rows, listed};
+ghost use Rattle.market.specs.Stop.{stopLevel, StopsAt};
+
+// The level at which a total stops: its price, what it receives of the total, what is offered at it, and what is offered
+// at it or below.
+pub struct Level {
+    pub price: u32,
+    pub amount: u32,
+    pub sum: u32,
+    pub reach: u32,
+}
 
 // Everything offered strictly below a price.
 pub fn supply_below(prices: &[u32], quantities: &[u32], n: usize, price: u32) -> u32
@@ -34,4 +42,22 @@ pub fn stop_level(prices: &[u32], quantities: &[u32], n: usize, x: u32) -> u32
         }
     }
     low
+}
+
+// The level at which the total x stops.
+pub fn level_of(prices: &[u32], quantities: &[u32], n: usize, x: u32) -> Level
+    requires { ⌜ Rows (now prices) (now quantities) n ⌝ }
+    ensures { λ r. ⌜ StopsAt (listed (now (prices .entry)) (now (quantities .entry)) n) x r ⌝ }
+{
+    let price = stop_level(prices, quantities, n, x);
+    let below = supply_below(prices, quantities, n, price);
+    let reach = supply_at(prices, quantities, n, price);
+    let sum = reach - below;
+    let room = x - below;
+    Level {
+        price,
+        amount: if room < sum { room } else { sum },
+        sum,
+        reach,
+    }
 }

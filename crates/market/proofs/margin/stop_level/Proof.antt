@@ -8,7 +8,8 @@ use borrow.Author.Tests.{le-leb, lt-leb}
 use Rattle.laws.proofs.Halving.{Halving, halving-start, halving-passed, halving-failed, halving-met}
 use Rattle.auction.specs.Offers.{supplyBelow}
 use Rattle.auction.proofs.Supply.{supplyBelow-suc}
-use Rattle.market.specs.Rows.{listed, stopLevel}
+use Rattle.market.specs.Rows.{listed}
+use Rattle.market.specs.Stop.{stopLevel}
 use Rattle.market.proofs.Stops.{stops, stops-passed, stops-failed, stops-closed}
 use native.Mathlib.Omega.{arith}
 use borrow.Author.Needs.{needs}

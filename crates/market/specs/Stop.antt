@@ -1,0 +1,23 @@
+-- The price level at which a total stops.
+-- Assumes nothing.
+use Prim.Native.Nat.{ℕ}
+use mathlib.Core.Path.{_≡_}
+use lib.Dec.{leb}
+use Rattle.laws.specs.Largest.{largest}
+use Rattle.auction.specs.Offers.{Offers, supply, supplyBelow, levelSum}
+use Rattle.auction.specs.Shares.{levelAmount}
+use Rattle.market.specs.declared.margin.Level.{Level}
+
+-- the highest price up to 1,000,000 such that what is offered strictly below it is at most x
+unfoldable pub stopLevel : Offers → ℕ → ℕ
+stopLevel o x = largest (λ p. leb (supplyBelow o p) x) 1000000
+
+-- what is known of the level at which a total x stops
+pub record StopsAt (o : Offers) (x : ℕ) (l : Level) : Type 0 where
+  pub price : l .price ≡ stopLevel o x
+  -- what the level receives of x
+  pub amount : l .amount ≡ levelAmount o x (l .price)
+  -- what is offered at the level
+  pub sum : l .sum ≡ levelSum o (l .price)
+  -- what is offered at the level or below
+  pub reach : l .reach ≡ supply o (l .price)
