@@ -6,9 +6,10 @@ ghost use Rattle.auction.specs.Offers.{supplyBelow};
 ghost use Rattle.market.specs.Rows.{Rows, listed};
 ghost use Rattle.market.specs.Stop.{stopLevel, StopsAt};
 
-// The level at which a total stops: its price, what it receives of the total, what is offered at it, and what is offered
-// at it or below.
+// The level at which a total stops: the total, the level's price, what it receives of the total, what is offered at it,
+// and what is offered at it or below.
 pub struct Level {
+    pub total: u32,
     pub price: u32,
     pub amount: u32,
     pub sum: u32,
@@ -55,6 +56,7 @@ pub fn level_of(prices: &[u32], quantities: &[u32], n: usize, x: u32) -> Level
     let sum = reach - below;
     let room = x - below;
     Level {
+        total: x,
         price,
         amount: if room < sum { room } else { sum },
         sum,

@@ -1,6 +1,6 @@
 -- `market::margin::level_of` is the level at which a total stops.
 -- Assumes nothing.
-use mathlib.Core.Path.{_≡_, ap, sym, subst, _∙_}
+use mathlib.Core.Path.{_≡_, refl, sym, subst}
 use Prim.Native.Nat.{ℕ, _+_, _-_, _≤_, _<_, min}
 use native.Mathlib.Omega.{arith}
 use borrow.Author.Needs.{needs}
@@ -60,6 +60,7 @@ returns : tie.Need-returns
 returns c =
     let b = c .before in
     record {
+      total = refl;
       price = b .before .before .stop-level .ensures .0;
       amount = amount-is _ _ _ _ _ _ (b .before .supply-below .ensures .0) (facts b .2) (omega arith);
       sum = facts b .2;
@@ -70,6 +71,7 @@ returns-2 : tie.Need-returns-2
 returns-2 c =
     let b = c .before in
     record {
+      total = refl;
       price = b .before .before .stop-level .ensures .0;
       amount = amount-is _ _ _ _ _ _ (b .before .supply-below .ensures .0) (facts b .2) (omega arith);
       sum = facts b .2;
