@@ -1,0 +1,69 @@
+-- The starred cases of the outline, in its order, each computed from the definitions; at the end two halves, which go upward.
+--
+-- Offers are written as in the outline, a quantity at a price. Their outcome is the total, the price or none, and what each
+-- row clears.
+-- Assumes nothing.
+use mathlib.Core.Path.{_≡_, refl}
+use mathlib.Core.List.{[], _∷_}
+use mathlib.Core.Option.{none, some}
+use Rattle.curve.specs.declared.CurvePrice.the-variants.{Price}
+use Rattle.reference.specs.Book.{curveBy, prices, quantities, reference, priceAt, _at_, outcome}
+
+-- P1 50,000, P2 18,750; Q1 9,900, Q2 10,150, Q3 10,450
+pub reference-prices : prices reference ≡ (50000, 18750)
+reference-prices = unfold curveBy in refl
+
+pub reference-quantities : quantities reference ≡ (9900, 10150, 10450)
+reference-quantities = unfold curveBy in refl
+
+-- curve at 9,900: 50,000; at 10,000: 37,500; at 10,151: 18,687; at 10,450: 0
+pub at-first-point : priceAt 9900 ≡ Price (record { 0 = 50000 })
+at-first-point = unfold priceAt in refl
+
+pub at-requirement : priceAt 10000 ≡ Price (record { 0 = 37500 })
+at-requirement = unfold priceAt in refl
+
+pub past-second-point : priceAt 10151 ≡ Price (record { 0 = 18687 })
+past-second-point = unfold priceAt in refl
+
+pub at-last-point : priceAt 10450 ≡ Price (record { 0 = 0 })
+at-last-point = unfold priceAt in refl
+
+-- E 0: P1 87,500, P2 37,500; E 146,000: P1 50,000, P2 0
+pub offset-none : prices (curveBy 146000 0 2000 10000) ≡ (87500, 37500)
+offset-none = unfold curveBy in refl
+
+pub offset-whole : prices (curveBy 146000 146000 2000 10000) ≡ (50000, 0)
+offset-whole = unfold curveBy in refl
+
+-- no offers: X 0, no price
+pub no-offers : outcome [] ≡ (0, none, [])
+no-offers = unfold outcome in refl
+
+-- 9,000 at 0: all clears, price 50,000; 11,000 at 0: X 10,450, price 0, a real zero
+pub all-clears : outcome (9000 at 0 ∷ []) ≡ (9000, some 50000, 9000 ∷ [])
+all-clears = unfold outcome in refl
+
+pub real-zero : outcome (11000 at 0 ∷ []) ≡ (10450, some 0, 10450 ∷ [])
+real-zero = unfold outcome in refl
+
+-- 100 at 50,000 clears; at 50,001 nothing clears, no price
+pub at-top-clears : outcome (100 at 50000 ∷ []) ≡ (100, some 50000, 100 ∷ [])
+at-top-clears = unfold outcome in refl
+
+pub over-top-clears-nothing : outcome (100 at 50001 ∷ []) ≡ (0, none, 0 ∷ [])
+over-top-clears-nothing = unfold outcome in refl
+
+-- 10,000 at 10,000 and 500 at 40,000: X 10,000, price 37,500; with the second at 37,450: same X, price 37,450
+pub curve-sets-price : outcome (10000 at 10000 ∷ 500 at 40000 ∷ []) ≡ (10000, some 37500, 10000 ∷ 0 ∷ [])
+curve-sets-price = unfold outcome in refl
+
+pub uncleared-sets-price : outcome (10000 at 10000 ∷ 500 at 37450 ∷ []) ≡ (10000, some 37450, 10000 ∷ 0 ∷ [])
+uncleared-sets-price = unfold outcome in refl
+
+-- not starred: C 146, E 0, F 2,000 come to 87.5 and 37.5 cents, and R 1,050 to 1,039.5 tenths at 99 percent
+pub half-cent-upward : prices (curveBy 146 0 2000 10000) ≡ (88, 38)
+half-cent-upward = unfold curveBy in refl
+
+pub half-tenth-upward : quantities (curveBy 146000 73000 2000 1050) ≡ (1040, 1066, 1097)
+half-tenth-upward = unfold curveBy in refl
