@@ -3,3 +3,5 @@ pub mod Ahead
 pub mod LevelDivision
 pub mod ShareLaws
 pub mod Spares
+pub mod ClearedSum
+pub mod Committed
