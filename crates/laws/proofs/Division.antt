@@ -42,10 +42,12 @@ unfoldable pub spare : Division → ℕ
 spare d = d .amount - sumOver d (partDown d)
 
 module _ (d : Division) where
+  -- a part rounded down, times all weights, and its remainder are the weight times the amount
   pub part-exact : (i : ℕ) → partDown d i * whole d + partLeft d i ≡ d .weight i * d .amount
   unfolding partDown partLeft
   part-exact i = div-add-mod' (d .weight i * d .amount) (whole d)
 
+  -- a remainder is less than all weights
   pub partLeft-less : 0 < whole d → (i : ℕ) → partLeft d i < whole d
   unfolding partLeft
   partLeft-less pos i = mod-lt (d .weight i * d .amount) pos

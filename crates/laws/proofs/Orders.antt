@@ -37,6 +37,7 @@ thenBy key rest i j = ltb (key i) (key j) || (eqb (key i) (key j) && rest i j)
 abbrev pub reversed : (ℕ → ℕ → Bool) → ℕ → ℕ → Bool
 reversed before i j = before j i
 
+-- the order by a key is strict
 pub byKey-order : (key : ℕ → ℕ) → StrictOrder (byKey key)
 byKey-order key =
     record {
@@ -45,14 +46,17 @@ byKey-order key =
           lt-ltb (key i) (key k) (omega (arith, ltb-true (key i) (key j) a, ltb-true (key j) (key k) b));
     }
 
+-- those that stand level in it have equal keys
 pub byKey-tied : (key : ℕ → ℕ) (i j : ℕ) → Tied (byKey key) i j → key i ≡ key j
 byKey-tied key i j t = omega (arith, ltb-false (key i) (key j) (t .0), ltb-false (key j) (key i) (t .1))
 
+-- a strict order from its end is strict
 pub reversed-order : (before : ℕ → ℕ → Bool) → StrictOrder before → StrictOrder (reversed before)
 reversed-order before order =
     record { irreflexive = order .irreflexive; transitive = λ i j k a b. order .transitive k j i b a }
 
 module _ (key : ℕ → ℕ) (rest : ℕ → ℕ → Bool) where
+  -- the lower key stands first
   pub thenBy-lower : (i j : ℕ) → key i < key j → thenBy key rest i j ≡ true
   thenBy-lower i j l = rw (lt-ltb (key i) (key j) l)
 
@@ -81,6 +85,7 @@ module _ (key : ℕ → ℕ) (rest : ℕ → ℕ → Bool) where
       both : key i ≡ key k → rest i j ≡ true → rest j k ≡ true → thenBy key rest i k ≡ true
       both e q r = thenBy-equal i k e ∙ order .transitive i j k q r
 
+  -- the order by a key first and then by a strict order is strict
   pub thenBy-order : StrictOrder rest → StrictOrder (thenBy key rest)
   thenBy-order order =
       record {

@@ -24,6 +24,7 @@ use Rattle.laws.proofs.Division.{part-exact, partDown-most, partDown-ro
 unfoldable pub share : Division → (ℕ → ℕ → Bool) → ℕ → ℕ
 share d before i = partDown d i + cond (ltb (rankAmong (d .within) before (d .places) i) (spare d)) 1 0
 
+-- a share is no less than the part rounded down
 pub share-least : (d : Division) (before : ℕ → ℕ → Bool) (i : ℕ) → partDown d i ≤ share d before i
 unfolding share
 share-least d before i = omega arith
