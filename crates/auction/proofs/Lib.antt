@@ -1,5 +1,12 @@
 pub mod Supply
 pub mod Ahead
+pub mod Total
+pub mod NextPrice
+pub mod Price
+pub mod Levels
+pub mod Optimal
+pub mod Best
+pub mod OneMore
 pub mod LevelDivision
 pub mod ShareLaws
 pub mod Spares

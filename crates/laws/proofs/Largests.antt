@@ -7,6 +7,7 @@ use native.Mathlib.Nat.{le-antisymm, le-refl, not-suc-le-zero}
 use native.Mathlib.Omega.{arith}
 use Rattle.laws.specs.Largest.{largest}
 use Rattle.laws.proofs.Cases.{by-order, by-test, cond-true, cond-false}
+use Rattle.laws.proofs.Compare.{le-unless}
 
 largest-zero : (test : ℕ → Bool) → largest test 0 ≡ 0
 unfolding largest
@@ -52,9 +53,9 @@ largest-passes test top e =
     by-order (largest test top) 0 (λ h. cc (ap test (le-antisymm h (omega arith)))) (largest-is test top .passes)
 
 -- where every greater number fails, one that passes is no greater
-pub fails-past : (test : ℕ → Bool) (top x : ℕ) →
-    ((k : ℕ) → x < k → k ≤ top → test k ≡ false) → (k : ℕ) → k ≤ top → test k ≡ true → k ≤ x
-fails-past test top x fails k l e = by-order k x (λ h. h) (λ h. absurd (true≢false (sym e ∙ fails k h l)))
+pub fails-past : (test : ℕ → Bool) (top x : ℕ)
+    → ((k : ℕ) → x < k → k ≤ top → test k ≡ false) → (k : ℕ) → k ≤ top → test k ≡ true → k ≤ x
+fails-past test top x fails k l e = le-unless k x (λ h. true≢false (sym e ∙ fails k h l))
 
 largest-order : (test : ℕ → Bool) (top x y : ℕ) → IsLargest test top x → IsLargest test top y → x ≤ y
 largest-order test top x y r s =
@@ -71,8 +72,8 @@ abbrev pub Closed : (ℕ → Bool) → ℕ → Type 0
 Closed test top = (k : ℕ) → k < top → test (suc k) ≡ true → test k ≡ true
 
 -- a closed test passes at every number under one that passes
-pub closed-down : (test : ℕ → Bool) (top : ℕ) → Closed test top →
-    (j k : ℕ) → j ≤ k → k ≤ top → test k ≡ true → test j ≡ true
+pub closed-down : (test : ℕ → Bool) (top : ℕ) → Closed test top
+    → (j k : ℕ) → j ≤ k → k ≤ top → test k ≡ true → test j ≡ true
 closed-down test top c j zero h l e = cc (ap test (le-antisymm h (omega arith)))
 closed-down test top c j (suc k) h l e =
     by-order j k
@@ -80,14 +81,13 @@ closed-down test top c j (suc k) h l e =
     (λ g. cc (ap test (le-antisymm h g)))
 
 -- what a search by halves ends with: of a closed test, a number that passes while the next one fails is the largest
-pub largest-found : (test : ℕ → Bool) (top x : ℕ) → Closed test top →
-    x ≤ top → (0 < x → test x ≡ true) → (x < top → test (suc x) ≡ false) → x ≡ largest test top
+pub largest-found : (test : ℕ → Bool) (top x : ℕ) → Closed test top
+    → x ≤ top → (0 < x → test x ≡ true) → (x < top → test (suc x) ≡ false) → x ≡ largest test top
 largest-found test top x c l e f =
     largest-alone test top x
     (record {
       within = l;
       passes = e;
       past = λ k m g.
-          by-order k x (λ h. h)
-          (λ h. absurd (true≢false (sym (closed-down test top c (suc x) k h m g) ∙ f (omega arith))));
+          le-unless k x (λ h. true≢false (sym (closed-down test top c (suc x) k h m g) ∙ f (omega arith)));
     })

@@ -8,11 +8,7 @@ use native.Mathlib.Nat.{le-antisymm, le-of-lt, le-refl, min-eq-left, min-eq-righ
 use native.Mathlib.Omega.{arith}
 use Rattle.laws.specs.Largest.{leastWhere, lesser}
 use Rattle.laws.proofs.Cases.{by-order, by-test, cond-true, cond-false}
-
--- what holds at n and at every place before it holds at every place before n + 1
-pub up-to-last {ℓ} : (P : ℕ → Type ℓ) (n : ℕ) → ((i : ℕ) → i < n → P i) → P n → (i : ℕ) → i < suc n → P i
-up-to-last P n before last i l =
-    by-order n i (λ h. rw (le-antisymm h (omega arith)) at last) (λ h. before i h)
+use Rattle.laws.proofs.Compare.{up-to-last}
 
 -- the least value of f at those of the first n places that pass `test`
 pub record IsLeast (test : ℕ → Bool) (f : ℕ → ℕ) (n m : ℕ) : Type 0 where
@@ -33,8 +29,8 @@ leastWhere-zero : (test : ℕ → Bool) (f : ℕ → ℕ) → leastWhere test f 
 unfolding leastWhere
 leastWhere-zero test f = refl
 
-leastWhere-suc : (test : ℕ → Bool) (f : ℕ → ℕ) (n : ℕ) →
-    leastWhere test f (suc n) ≡ cond (test n) (some (lesser (f n) (leastWhere test f n))) (leastWhere test f n)
+leastWhere-suc : (test : ℕ → Bool) (f : ℕ → ℕ) (n : ℕ)
+    → leastWhere test f (suc n) ≡ cond (test n) (some (lesser (f n) (leastWhere test f n))) (leastWhere test f n)
 unfolding leastWhere
 leastWhere-suc test f n = refl
 
@@ -89,4 +85,5 @@ pub least-alone : (test : ℕ → Bool) (f : ℕ → ℕ) (n : ℕ) (a b : Optio
 least-alone test f n none none r s = refl
 least-alone test f n none (some b) r s = absurd (true≢false (sym (s .passes) ∙ r (s .place) (s .within)))
 least-alone test f n (some a) none r s = absurd (true≢false (sym (r .passes) ∙ s (r .place) (r .within)))
-least-alone test f n (some a) (some b) r s = ap some (le-antisymm (least-order test f n a b r s) (least-order test f n b a s r))
+least-alone test f n (some a) (some b) r s =
+    ap some (le-antisymm (least-order test f n a b r s) (least-order test f n b a s r))

@@ -9,3 +9,11 @@ pub mod Ranks
 pub mod Summands
 pub mod Division
 pub mod Remainders
+pub mod Loops
+pub mod Everys
+pub mod Altered
+pub mod Halving
+pub mod Compare
+pub mod Quotients
+pub mod Nearests
+pub mod Pieces

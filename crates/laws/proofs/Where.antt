@@ -1,16 +1,16 @@
 -- Laws of `sumWhere`, the sum over those places that pass a test.
 --
--- In order: one place more; a test that implies another; ordered summands; a test that is either of two; all places; one
--- place that passes; a sum that is not 0 has a place that passes.
+-- In order: one place more; a test that implies another; equal tests; a test that is either of two; no place that passes;
+-- all places; summands that are 0 where the test fails; one place that passes; a sum that is not 0 has a place that passes.
 -- Assumes nothing.
-use mathlib.Core.Path.{_≡_, refl, sym, ap, _∙_}
+use mathlib.Core.Path.{_≡_, refl, sym, ap₂, _∙_}
 use mathlib.Core.Bool.{Bool, true, false, cond, _||_, true≢false, false≢true}
 use Prim.Native.Nat.{ℕ, zero, suc, _+_, _≤_, _<_}
 use native.Mathlib.Nat.{le-refl, zero-add, add-zero}
 use native.Mathlib.Omega.{arith}
 use Rattle.laws.specs.Sum.{sumTo, sumWhere}
 use Rattle.laws.proofs.Cases.{by-test, cond-true, cond-false}
-use Rattle.laws.proofs.Sums.{sumTo-zero, sumTo-suc, sumTo-ext, sumTo-mono, sumTo-add, sumTo-place}
+use Rattle.laws.proofs.Sums.{sumTo-zero, sumTo-suc, sumTo-ext, sumTo-mono, sumTo-add, sumTo-none, sumTo-place}
 
 -- no place, nothing to add
 pub sumWhere-zero : (test : ℕ → Bool) (f : ℕ → ℕ) → sumWhere test f 0 ≡ 0
@@ -18,10 +18,14 @@ unfolding sumWhere
 sumWhere-zero test f = sumTo-zero (λ i. cond (test i) (f i) 0)
 
 -- one place more adds its value if it passes
-pub sumWhere-suc : (test : ℕ → Bool) (f : ℕ → ℕ) (n : ℕ) →
-    sumWhere test f (suc n) ≡ sumWhere test f n + cond (test n) (f n) 0
+pub sumWhere-suc : (test : ℕ → Bool) (f : ℕ → ℕ) (n : ℕ)
+    → sumWhere test f (suc n) ≡ sumWhere test f n + cond (test n) (f n) 0
 unfolding sumWhere
 sumWhere-suc test f n = sumTo-suc (λ i. cond (test i) (f i) 0) n
+
+-- one place more gives no less
+pub sumWhere-more : (test : ℕ → Bool) (f : ℕ → ℕ) (n : ℕ) → sumWhere test f n ≤ sumWhere test f (suc n)
+sumWhere-more test f n = omega (arith, sumWhere-suc test f n)
 
 -- a value that counts under one test counts under a test that it implies
 cond-implied : (s t : Bool) (v : ℕ) → (s ≡ true → t ≡ true) → cond s v 0 ≤ cond t v 0
@@ -30,16 +34,21 @@ cond-implied true false v h = absurd (false≢true (h refl))
 cond-implied false t v h = omega arith
 
 -- where one test implies another, the sum under it is at most the sum under the other
-pub sumWhere-implied : (s t : ℕ → Bool) (f : ℕ → ℕ) (n : ℕ) →
-    ((i : ℕ) → i < n → s i ≡ true → t i ≡ true) → sumWhere s f n ≤ sumWhere t f n
+pub sumWhere-implied : (s t : ℕ → Bool) (f : ℕ → ℕ) (n : ℕ)
+    → ((i : ℕ) → i < n → s i ≡ true → t i ≡ true) → sumWhere s f n ≤ sumWhere t f n
 unfolding sumWhere
 sumWhere-implied s t f n h = sumTo-mono _ _ n (λ i l. cond-implied (s i) (t i) (f i) (h i l))
 
--- two tests that agree at every place give one sum
-pub sumWhere-same : (s t : ℕ → Bool) (f : ℕ → ℕ) (n : ℕ) →
-    ((i : ℕ) → i < n → s i ≡ t i) → sumWhere s f n ≡ sumWhere t f n
+-- tests and values that agree at every place give one sum
+pub sumWhere-agree : (s t : ℕ → Bool) (f g : ℕ → ℕ) (n : ℕ)
+    → ((i : ℕ) → i < n → s i ≡ t i) → ((i : ℕ) → i < n → f i ≡ g i) → sumWhere s f n ≡ sumWhere t g n
 unfolding sumWhere
-sumWhere-same s t f n h = sumTo-ext _ _ n (λ i l. ap (λ (b : Bool). cond b (f i) 0) (h i l))
+sumWhere-agree s t f g n h k = sumTo-ext _ _ n (λ i l. ap₂ (λ (b : Bool) (v : ℕ). cond b v 0) (h i l) (k i l))
+
+-- two tests that agree at every place give one sum
+pub sumWhere-same : (s t : ℕ → Bool) (f : ℕ → ℕ) (n : ℕ)
+    → ((i : ℕ) → i < n → s i ≡ t i) → sumWhere s f n ≡ sumWhere t f n
+sumWhere-same s t f n h = sumWhere-agree s t f f n h (λ i l. refl)
 
 -- either of two tests, never both
 cond-either : (s t : Bool) (v : ℕ) → (s ≡ true → t ≡ false) → cond s v 0 + cond t v 0 ≡ cond (s || t) v 0
@@ -48,13 +57,19 @@ cond-either true false v h = add-zero v
 cond-either false t v h = zero-add (cond t v 0)
 
 -- the places that pass either of two tests, of which never both hold, give both sums
-pub sumWhere-either : (s t : ℕ → Bool) (f : ℕ → ℕ) (n : ℕ) →
-    ((i : ℕ) → i < n → s i ≡ true → t i ≡ false) →
-    sumWhere s f n + sumWhere t f n ≡ sumWhere (λ i. s i || t i) f n
+pub sumWhere-either : (s t : ℕ → Bool) (f : ℕ → ℕ) (n : ℕ)
+    → ((i : ℕ) → i < n → s i ≡ true → t i ≡ false)
+    → sumWhere s f n + sumWhere t f n ≡ sumWhere (λ i. s i || t i) f n
 unfolding sumWhere
 sumWhere-either s t f n h =
     sym (sumTo-add (λ i. cond (s i) (f i) 0) (λ i. cond (t i) (f i) 0) n)
     ∙ sumTo-ext _ _ n (λ i l. cond-either (s i) (t i) (f i) (h i l))
+
+-- where no place passes, there is nothing to add
+pub sumWhere-none : (test : ℕ → Bool) (f : ℕ → ℕ) (n : ℕ)
+    → ((i : ℕ) → i < n → test i ≡ false) → sumWhere test f n ≡ 0
+unfolding sumWhere
+sumWhere-none test f n h = sumTo-none _ n (λ i l. cond-false (test i) (f i) 0 (h i l))
 
 cond-at-most : (t : Bool) (v : ℕ) → cond t v 0 ≤ v
 cond-at-most true v = le-refl v
@@ -65,6 +80,17 @@ pub sumWhere-all : (test : ℕ → Bool) (f : ℕ → ℕ) (n : ℕ) → sumWher
 unfolding sumWhere
 sumWhere-all test f n = sumTo-mono _ f n (λ i l. cond-at-most (test i) (f i))
 
+cond-covers : (t : Bool) (a v : ℕ) → (t ≡ true → a ≤ v) → (t ≡ false → a ≤ 0) → a ≤ cond t v 0
+cond-covers true a v h k = h refl
+cond-covers false a v h k = k refl
+
+-- where what fails is 0, and what passes at most f, all places together are at most the sum of f over those that pass
+pub sumWhere-covers : (test : ℕ → Bool) (a f : ℕ → ℕ) (n : ℕ)
+    → ((i : ℕ) → i < n → test i ≡ true → a i ≤ f i)
+    → ((i : ℕ) → i < n → test i ≡ false → a i ≤ 0) → sumTo a n ≤ sumWhere test f n
+unfolding sumWhere
+sumWhere-covers test a f n h k = sumTo-mono a _ n (λ i l. cond-covers (test i) (a i) (f i) (h i l) (k i l))
+
 -- the value of a place that passes is at most the sum
 pub sumWhere-place : (test : ℕ → Bool) (f : ℕ → ℕ) (n i : ℕ) → i < n → test i ≡ true → f i ≤ sumWhere test f n
 unfolding sumWhere
@@ -72,8 +98,8 @@ sumWhere-place test f n i l e =
     omega (arith, sumTo-place (λ j. cond (test j) (f j) 0) n i l, cond-true (test i) (f i) 0 e)
 
 -- a sum that is not 0 has a place that passes
-pub sumWhere-found : (test : ℕ → Bool) (f : ℕ → ℕ) (n : ℕ) →
-    0 < sumWhere test f n → (i : ℕ) × (i < n) × (test i ≡ true)
+pub sumWhere-found : (test : ℕ → Bool) (f : ℕ → ℕ) (n : ℕ)
+    → 0 < sumWhere test f n → (i : ℕ) × (i < n) × (test i ≡ true)
 sumWhere-found test f zero h = absurd (omega (arith, sumWhere-zero test f))
 sumWhere-found test f (suc n) h =
     by-test (test n)

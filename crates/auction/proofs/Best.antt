@@ -1,0 +1,104 @@
+-- Amounts that clear by the clearing price are the best choice.
+--
+-- In order: what it is to clear by price, and to be best; the one implies the other; amounts that fill the cleared total
+-- from the lowest price upward clear by price.
+-- Assumes nothing.
+use mathlib.Core.Path.{_≡_}
+use mathlib.Core.Option.{some}
+use Prim.Native.Nat.{ℕ, _≤_, _<_}
+use native.Mathlib.Nat.{le-refl}
+use native.Mathlib.Omega.{arith}
+use Rattle.laws.proofs.Cases.{by-order}
+use Rattle.laws.proofs.Sums.{sumTo-place}
+use Rattle.auction.specs.Offers.{Offers, Demand, Falling, supply, supplyBelow}
+use Rattle.auction.specs.Clearing.{clearedTotal, clearingPrice}
+use Rattle.auction.specs.Surplus.{total, Choice, NoMoreSurplus}
+use Rattle.auction.proofs.Supply.{supply-place}
+use Rattle.auction.proofs.Total.{IsTotal, total-is-largest, supply-past-total}
+use Rattle.auction.proofs.Price.{Margin, marginPrice, marginPrice-margin, price-some, price-margin}
+use Rattle.auction.proofs.Optimal.{Separated, no-more-surplus, equal-surplus-clears-no-more}
+
+-- the amounts x clear by price
+pub record ByPrice (d : Demand) (o : Offers) (x : ℕ → ℕ) : Type 0 where
+  -- no offer clears more than its quantity
+  pub within : (i : ℕ) → i < o .count → x i ≤ o .quantity i
+  -- together they are the cleared total
+  pub sum : total o x ≡ clearedTotal d o
+  -- every offer under the clearing price clears in full
+  pub whole : (p : ℕ) → clearingPrice d o ≡ some p → (i : ℕ) → i < o .count → o .price i < p → x i ≡ o .quantity i
+  -- every offer over the clearing price clears nothing
+  pub nothing : (p : ℕ) → clearingPrice d o ≡ some p → (i : ℕ) → i < o .count → p < o .price i → x i ≡ 0
+
+-- the amounts x are the best choice
+pub record Best (d : Demand) (o : Offers) (x : ℕ → ℕ) : Type 0 where
+  -- they are a choice: each between nothing and the offered quantity, together no more than the curve's last point
+  pub choice : Choice d o x
+  -- no other choice leaves more surplus
+  pub most : (a : ℕ → ℕ) → Choice d o a → NoMoreSurplus d o a x
+  -- none with equal surplus clears more
+  pub largest : (a : ℕ → ℕ) → Choice d o a → NoMoreSurplus d o x a → total o a ≤ total o x
+
+-- amounts that fill the total t from the lowest price upward
+pub record Fills (o : Offers) (t : ℕ) (x : ℕ → ℕ) : Type 0 where
+  -- no offer clears more than its quantity
+  pub within : (i : ℕ) → i < o .count → x i ≤ o .quantity i
+  -- together they are t
+  pub sum : total o x ≡ t
+  -- an offer whose level fits into t with all below it clears in full
+  pub whole : (i : ℕ) → i < o .count → supply o (o .price i) ≤ t → x i ≡ o .quantity i
+  -- an offer before whose level t is filled clears nothing
+  pub nothing : (i : ℕ) → i < o .count → t ≤ supplyBelow o (o .price i) → x i ≡ 0
+
+-- amounts that fill the cleared total clear by price
+pub fills-byPrice : (d : Demand) (o : Offers) (x : ℕ → ℕ) → Falling d → Fills o (clearedTotal d o) x → ByPrice d o x
+fills-byPrice d o x falling f =
+    record {
+      within = f .within;
+      sum = f .sum;
+      whole = λ p e i l h. f .whole i l (price-margin d o p falling e .under (o .price i) h);
+      nothing = λ p e i l h. f .nothing i l (price-margin d o p falling e .over (o .price i) h);
+    }
+
+total-place : (o : Offers) (x : ℕ → ℕ) (i : ℕ) → i < o .count → x i ≤ total o x
+unfolding total
+total-place o x i l = sumTo-place x (o .count) i l
+
+module _ (d : Demand) (o : Offers) (x : ℕ → ℕ) (falling : Falling d) (b : ByPrice d o x) where
+  margin : Margin d o (clearedTotal d o) (marginPrice d o (clearedTotal d o))
+  margin = marginPrice-margin d o (clearedTotal d o) falling (total-is-largest d o)
+
+  -- where nothing clears, an offer under the price at the margin has nothing to sell
+  margin-whole : (i : ℕ) → i < o .count → o .price i < marginPrice d o (clearedTotal d o) → x i ≡ o .quantity i
+  margin-whole i l h =
+      by-order (clearedTotal d o) 0
+      (λ z. omega (arith, b .within i l, supply-place o (o .price i) i l (le-refl _), margin .under (o .price i) h))
+      (λ z. b .whole _ (price-some d o z) i l h)
+
+  margin-nothing : (i : ℕ) → i < o .count → marginPrice d o (clearedTotal d o) < o .price i → x i ≡ 0
+  margin-nothing i l h =
+      by-order (clearedTotal d o) 0
+      (λ z. omega (arith, total-place o x i l, b .sum))
+      (λ z. b .nothing _ (price-some d o z) i l h)
+
+  byPrice-separated : Separated d o (marginPrice d o (clearedTotal d o)) x
+  byPrice-separated =
+      record {
+        whole = margin-whole;
+        nothing = margin-nothing;
+        upTo = λ k z l. margin .upTo k (rw (← b .sum) l);
+        past = λ k l h. margin .past k (rw (← b .sum) l) h;
+      }
+
+  byPrice-total : IsTotal d o (total o x)
+  byPrice-total = rw (b .sum) (total-is-largest d o)
+
+  -- amounts that clear by price are the best choice
+  pub byPrice-best : Best d o x
+  byPrice-best =
+      record {
+        choice = record { within = b .within; upTo = byPrice-total .within };
+        most = no-more-surplus d o _ x byPrice-separated;
+        largest = λ a c e.
+            equal-surplus-clears-no-more d o _ x byPrice-separated a c e
+            (supply-past-total d o (total o x) falling byPrice-total);
+      }

@@ -1,0 +1,3 @@
+pub mod Stored
+pub mod Exchange
+pub mod Damage

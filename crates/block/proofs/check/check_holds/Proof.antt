@@ -1,0 +1,50 @@
+-- `check_holds` tells whether the last four bytes hold both sums: it compares what its callees ensure.
+-- Assumes nothing.
+use borrow.Author.Needs.{needs}
+use borrow.Author.Tests.{eq-eqb, ne-eqb}
+use Rattle.block.specs.Check.{checkHolds}
+use Rattle.block.proofs.check.check_holds.Statement.{statement}
+use Rattle.block.proofs.check.check_holds.Tie as tie
+
+first-sum-requires : tie.Need-first-sum-requires
+first-sum-requires c κs = search needs
+
+u16-at-requires : tie.Need-u16-at-requires
+u16-at-requires c κs = search needs
+
+second-sum-requires : tie.Need-second-sum-requires
+second-sum-requires c κs = search needs
+
+u16-at-requires-2 : tie.Need-u16-at-requires-2
+u16-at-requires-2 c κs = search needs
+
+returns : tie.Need-returns
+unfolding checkHolds
+returns c =
+    rw (
+      ← (c .before .before .before .before .first-sum .ensures),
+      ← (c .before .before .before .u16-at .ensures .0),
+      ← (c .before .second-sum .ensures),
+      ← (c .u16-at2 .ensures .0),
+      eq-eqb _ _ (c .before .before .if1 .taken),
+    )
+
+returns-2 : tie.Need-returns-2
+unfolding checkHolds
+returns-2 c =
+    rw (
+      ← (c .before .before .first-sum .ensures),
+      ← (c .before .u16-at .ensures .0),
+      ne-eqb _ _ (c .if1 .left),
+    )
+
+pub check-holds-spec : {M : Type 1} → statement M
+check-holds-spec =
+    tie.close
+    (tie.spec
+    first-sum-requires
+    u16-at-requires
+    second-sum-requires
+    u16-at-requires-2
+    returns
+    returns-2)

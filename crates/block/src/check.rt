@@ -1,0 +1,41 @@
+// The two sums of a block and the check that they make.
+use crate::bytes::u16_at;
+use crate::bytes::wide;
+ghost use mathlib.Core.Path.{_≡_};
+ghost use Prim.Native.Nat.{_≤_};
+ghost use lib.ListN.{length};
+ghost use Rattle.block.specs.Check.{firstSum, secondSum, checkHolds};
+
+// The sum of bytes 0 to 507.
+fn first_sum(s: &[u8]) -> u32
+    requires { ⌜ 508 ≤ length (now s) ⌝ }
+    ensures { λ r. ⌜ r ≡ firstSum (now (s .entry)) ⌝ }
+{
+    let mut sum: u32 = 0;
+    for i in 0..508 {
+        sum += wide(s[i]);
+    }
+    sum
+}
+
+// The sum of each of them times its position counted from 1.
+fn second_sum(s: &[u8]) -> u32
+    requires { ⌜ 508 ≤ length (now s) ⌝ }
+    ensures { λ r. ⌜ r ≡ secondSum (now (s .entry)) ⌝ }
+{
+    let mut sum: u32 = 0;
+    let mut position: u32 = 0;
+    for i in 0..508 {
+        position += 1;
+        sum += wide(s[i]) * position;
+    }
+    sum
+}
+
+// Whether the last four bytes hold both sums.
+pub fn check_holds(s: &[u8]) -> bool
+    requires { ⌜ 512 ≤ length (now s) ⌝ }
+    ensures { λ r. ⌜ r ≡ checkHolds (now (s .entry)) ⌝ }
+{
+    first_sum(s) % 65536 == u16_at(s, 508) && second_sum(s) % 65536 == u16_at(s, 510)
+}

@@ -1,0 +1,6 @@
+// A block of 512 bytes, and the numbers, letters and sums in it.
+pub mod bytes;
+pub mod check;
+
+// How many bytes a block has.
+pub const SIZE: usize = 512;

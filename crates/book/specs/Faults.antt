@@ -1,0 +1,39 @@
+-- The refusals of a book in their stated order, and soundness.
+-- Assumes nothing.
+use Prim.Native.Nat.{ℕ}
+use mathlib.Core.Bool.{Bool, true, false}
+use mathlib.Core.List.{List}
+use Rattle.values.specs.Refusals.{andThen}
+use Rattle.values.specs.Head.{parametersOf}
+use Rattle.values.specs.Place.{offerOf}
+use Rattle.values.specs.declared.Verdict.{Verdict}
+use Rattle.values.specs.declared.head.Parameters.{Parameters}
+use Rattle.values.specs.declared.place.Offer.{Offer}
+use Rattle.layout.specs.Blocks.{blockOf, rowOf}
+use Rattle.layout.specs.Form.{formFault, offerCount}
+use Rattle.limits.specs.Parameters.{missingFault, rangeFault}
+use Rattle.limits.specs.Offers.{rowsFault}
+
+-- the parameters of a book
+unfoldable pub bookParameters : List ℕ → Parameters
+bookParameters b = parametersOf (blockOf b 0)
+
+-- the offer of a row of a book
+unfoldable pub bookOffer : List ℕ → ℕ → Offer
+bookOffer b row = offerOf (rowOf b row)
+
+-- THE TABLE. The first fault of a book that is to be cleared: 1; 2 over all blocks; 3 likewise; 4; 5 by field; rows from 0,
+-- each for 6, 7, 8.
+unfoldable pub firstFault : List ℕ → Verdict
+firstFault b =
+    andThen (formFault b)
+    (andThen (missingFault (bookParameters b))
+    (andThen (rangeFault (bookParameters b))
+    (rowsFault true (bookOffer b) (offerCount b))))
+
+-- A sound book passes 1 to 3, and its given values pass 5, 7 and 8; its missing values are no fault.
+unfoldable pub soundFault : List ℕ → Verdict
+soundFault b =
+    andThen (formFault b)
+    (andThen (rangeFault (bookParameters b))
+    (rowsFault false (bookOffer b) (offerCount b)))

@@ -1,0 +1,27 @@
+-- The contracts of the curve leave one answer: any two that a contract allows for the same arguments coincide.
+-- Assumes nothing.
+use mathlib.Core.Path.{_≡_, sym, _∙_}
+use Prim.Native.Nat.{ℕ}
+use Rattle.curve.specs.declared.Curve.{Curve}
+use Rattle.curve.specs.declared.CurvePrice.{CurvePrice}
+use Rattle.curve.specs.declared.Terms.{Terms}
+use Rattle.curve.specs.declared.Weights.{Weights}
+use Rattle.curve.proofs.points.Reads as points
+use Rattle.curve.proofs.points_2026.Reads as points-2026
+use Rattle.curve.proofs.price_at.Reads as price-at
+
+-- the points, by the contract of `points`
+pub points-decided : (w : Weights) (whole : ℕ) (t : Terms) (r s : Curve)
+    → points.Post tt (w, (whole, (t, tt))) r (w, (whole, (t, tt)))
+    → points.Post tt (w, (whole, (t, tt))) s (w, (whole, (t, tt))) → r ≡ s
+points-decided w whole t r s e f = e .0 ∙ sym (f .0)
+
+-- the points of a year from 2026 on, by the contract of `points_2026`
+pub points-2026-decided : (t : Terms) (r s : Curve)
+    → points-2026.Post tt (t, tt) r (t, tt) → points-2026.Post tt (t, tt) s (t, tt) → r ≡ s
+points-2026-decided t r s e f = e .0 ∙ sym (f .0)
+
+-- the price, or that there is none, by the contract of `price_at`
+pub curve-price-decided : (c : Curve) (k : ℕ) (r s : CurvePrice)
+    → price-at.Post tt (c, (k, tt)) r (c, (k, tt)) → price-at.Post tt (c, (k, tt)) s (c, (k, tt)) → r ≡ s
+curve-price-decided c k r s e f = e ∙ sym f

@@ -1,0 +1,45 @@
+-- What weights must meet, what every curve made by such weights is, and the weights of 2026.
+-- Assumes nothing.
+use Prim.Native.Nat.{ℕ, _+_, _*_, _≤_, _<_}
+use Rattle.curve.specs.declared.Terms.{Terms}
+use Rattle.curve.specs.declared.Weights.{Weights}
+use Rattle.curve.specs.declared.Curve.{Curve}
+use Rattle.curve.specs.Points.{curveOf}
+
+-- weights that make a curve of every requirement from 1,000 to 2,000,000 tenths; `whole` is 100 percent
+pub record Usable (w : Weights) (whole : ℕ) : Type 0 where
+  -- point 2 weighs the net cost no more than point 1
+  pub second-most : w .second ≤ w .first
+  -- point 1 weighs it by 1.75 at most
+  pub first-most : w .first ≤ 7
+  -- point 1 stands over nothing
+  pub under-most : w .under < whole
+  -- points 1 and 2 are a tenth or more apart at the least requirement
+  pub first-apart : whole ≤ 1000 * (w .under + w .over)
+  -- and so are points 2 and 3
+  pub second-apart : whole + 1000 * w .over ≤ 1000 * w .last
+  -- point 3 stands at 110 percent at most
+  pub last-most : 10 * w .last ≤ whole
+  -- a reserve margin adds 50 percent at most
+  pub whole-most : whole ≤ 15000
+
+-- a curve whose points go right and never up
+pub record Shaped (c : Curve) : Type 0 where
+  -- P2 is at most P1
+  pub prices-fall : c .p2 .0 ≤ c .p1 .0
+  -- no price is over 9,589.04 dollars per MW-day
+  pub price-most : c .p1 .0 ≤ 958904
+  -- Q1 is before Q2
+  pub first-rises : c .q1 < c .q2
+  -- and Q2 before Q3
+  pub second-rises : c .q2 < c .q3
+  -- no quantity is over 220,000 megawatts
+  pub quantity-most : c .q3 ≤ 2200000
+
+-- delivery years from 2026 on: 1.75 and 0.75 times the net cost; 99, 101.5 and 104.5 percent
+abbrev pub weights2026 : Weights
+weights2026 = record { first = 7; second = 3; under = 100; over = 150; last = 450 }
+
+-- the curve of a delivery year from 2026 on
+abbrev pub curve2026 : Terms → Curve
+curve2026 t = curveOf weights2026 10000 t

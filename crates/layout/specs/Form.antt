@@ -1,0 +1,49 @@
+-- Refusals 1, 2 and 3, and the part that the reader of rows hands back.
+-- Assumes nothing.
+use Prim.Native.Nat.{ℕ, _+_, _-_, _%_}
+use mathlib.Core.Bool.{cond, _&&_}
+use mathlib.Core.List.{List, []}
+use lib.ListN.{length}
+use lib.Dec.{eqb, leb, ltb}
+use Rattle.block.specs.Check.{checkHolds}
+use Rattle.values.specs.Head.{offersIn}
+use Rattle.values.specs.Refusals.{wrongLength, wrongCheck, wrongLayout, unless, andThen, first}
+use Rattle.values.specs.declared.Verdict.{Verdict}
+use Rattle.values.specs.declared.Verdict.the-variants.{Passed, Refused}
+use Rattle.layout.specs.Blocks.{blockCount, blockOf, rowOf}
+use Rattle.layout.specs.Layout.{headHolds, rowsHold, rowsHere, ofrs}
+
+-- 1: the length
+unfoldable pub lengthFault : List ℕ → Verdict
+lengthFault b = unless (eqb (length b % 512) 0 && (leb 512 (length b) && leb (length b) 20992)) wrongLength
+
+-- 2: the check, over all blocks, lowest first
+unfoldable pub checkFault : List ℕ → Verdict
+checkFault b = first (λ k. unless (checkHolds (blockOf b k)) (wrongCheck k)) (blockCount b)
+
+-- the number of offers that a book states
+abbrev pub offerCount : List ℕ → ℕ
+offerCount b = offersIn (blockOf b 0)
+
+-- 3 at an offer block
+unfoldable pub offerBlockFault : List ℕ → ℕ → Verdict
+offerBlockFault b k = unless (rowsHold ofrs (blockOf b k) k (rowsHere (offerCount b) k)) (wrongLayout k)
+
+-- 3: the layout, block 0 first, then the offer blocks, lowest first
+unfoldable pub layoutFault : List ℕ → Verdict
+layoutFault b =
+    andThen (unless (headHolds (blockOf b 0) (blockCount b)) (wrongLayout 0))
+    (first (λ j. offerBlockFault b (j + 1)) (blockCount b - 1))
+
+-- the first of the faults 1, 2, 3
+unfoldable pub formFault : List ℕ → Verdict
+formFault b = andThen (lengthFault b) (andThen (checkFault b) (layoutFault b))
+
+-- what a reader hands back of a book: nothing where a fault was found
+abbrev pub handedBack : Verdict → List ℕ → List ℕ
+handedBack Passed part = part
+handedBack (Refused number place) part = []
+
+-- an offer's own 32 bytes; for a row that isn't there, or a book refused by 1 to 3, an empty part
+unfoldable pub rowPart : List ℕ → ℕ → List ℕ
+rowPart b row = handedBack (formFault b) (cond (ltb row (offerCount b)) (rowOf b row) [])

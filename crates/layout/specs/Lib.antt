@@ -1,0 +1,3 @@
+pub mod Blocks
+pub mod Layout
+pub mod Form

@@ -1,0 +1,2 @@
+pub mod Parameters
+pub mod Offers

@@ -1,0 +1,3 @@
+// What the rows of a book clear against the curve.
+pub mod supply;
+pub mod margin;

@@ -1,0 +1,23 @@
+-- Block 0: 6-7 delivery year; 8-11 C; 12-15 E; 16-19 F; 20-23 R; 24-25 number of offers; 26 marks, of which bits 0 to 3
+-- say that C, E, F, R are given.
+-- Assumes nothing.
+use Prim.Native.Nat.{ℕ}
+use mathlib.Core.List.{List}
+use Rattle.block.specs.Bytes.{byte, u16At, u32At}
+use Rattle.values.specs.Values.{marked, valueOf}
+use Rattle.values.specs.declared.head.Parameters.{Parameters}
+
+-- the parameters that a block 0 holds
+unfoldable pub parametersOf : List ℕ → Parameters
+parametersOf s =
+    record {
+      year = u16At s 6;
+      cost = valueOf (marked (byte s 26) 0) (u32At s 8);
+      offset = valueOf (marked (byte s 26) 1) (u32At s 12);
+      outage = valueOf (marked (byte s 26) 2) (u32At s 16);
+      requirement = valueOf (marked (byte s 26) 3) (u32At s 20)
+    }
+
+-- the number of offers that a block 0 states
+unfoldable pub offersIn : List ℕ → ℕ
+offersIn s = u16At s 24

@@ -1,0 +1,4 @@
+pub mod Values
+pub mod Head
+pub mod Place
+pub mod Refusals

@@ -1,0 +1,20 @@
+-- A place of 32 bytes: 0-3 resource; 4-7 seller; 8-11 price; 12-15 offered quantity; 16-19 minimum block; 20-27 time
+-- stamp; 28 marks, of which bit 0 says that the price is given and bit 1 that the minimum block is.
+-- Assumes nothing.
+use Prim.Native.Nat.{ℕ}
+use mathlib.Core.List.{List}
+use Rattle.block.specs.Bytes.{byte, u32At, u64At}
+use Rattle.values.specs.Values.{marked, valueOf}
+use Rattle.values.specs.declared.place.Offer.{Offer}
+
+-- the offer that a place holds
+unfoldable pub offerOf : List ℕ → Offer
+offerOf s =
+    record {
+      resource = u32At s 0;
+      seller = u32At s 4;
+      price = valueOf (marked (byte s 28) 0) (u32At s 8);
+      quantity = u32At s 12;
+      block = valueOf (marked (byte s 28) 1) (u32At s 16);
+      stamp = u64At s 20
+    }

@@ -1,0 +1,36 @@
+// An offer, as its own 32 bytes hold it.
+use block::bytes::{u32_at, u64_at};
+use crate::{Value, value_at};
+ghost use mathlib.Core.Path.{_≡_};
+ghost use Prim.Native.Nat.{_≤_};
+ghost use lib.ListN.{length};
+ghost use Rattle.values.specs.Place.{offerOf};
+
+// The offer of a row.
+pub struct Offer {
+    pub resource: u32,
+    pub seller: u32,
+    // in cents per MW-day
+    pub price: Value,
+    // in tenths of a megawatt
+    pub quantity: u32,
+    // the minimum block, in tenths of a megawatt; where it is missing the offer is flexible
+    pub block: Value,
+    pub stamp: u64,
+}
+
+// The offer that a place of 32 bytes holds.
+pub fn offer_in(s: &[u8]) -> Offer
+    requires { ⌜ 32 ≤ length (now s) ⌝ }
+    ensures { λ r. ⌜ r ≡ offerOf (now (s .entry)) ⌝ }
+{
+    let marks = s[28];
+    Offer {
+        resource: u32_at(s, 0),
+        seller: u32_at(s, 4),
+        price: value_at(s, 8, marks, 1),
+        quantity: u32_at(s, 12),
+        block: value_at(s, 16, marks, 2),
+        stamp: u64_at(s, 20),
+    }
+}
