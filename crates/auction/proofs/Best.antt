@@ -1,21 +1,23 @@
 -- Amounts that clear by the clearing price are the best choice.
 --
--- In order: what it is to clear by price, and to be best; the one implies the other; amounts that fill the cleared total
--- from the lowest price upward clear by price.
+-- In order: what it is to clear by price, and to be best; the one implies the other; amounts that divide the cleared total
+-- by levels, however each level is divided, clear by price and are best.
 -- Assumes nothing.
 use mathlib.Core.Path.{_≡_}
 use mathlib.Core.Option.{some}
 use Prim.Native.Nat.{ℕ, _≤_, _<_}
-use native.Mathlib.Nat.{le-refl}
+use native.Mathlib.Nat.{le-refl, le-trans}
 use native.Mathlib.Omega.{arith}
 use Rattle.laws.proofs.Cases.{by-order}
 use Rattle.laws.proofs.Sums.{sumTo-place}
-use Rattle.auction.specs.Offers.{Offers, Demand, Falling, supply, supplyBelow}
+use Rattle.auction.specs.Offers.{Offers, Demand, Falling}
 use Rattle.auction.specs.Clearing.{clearedTotal, clearingPrice}
 use Rattle.auction.specs.Surplus.{total, Choice, NoMoreSurplus}
-use Rattle.auction.proofs.Supply.{supply-place}
+use Rattle.auction.proofs.Supply.{supply-all, supply-place}
 use Rattle.auction.proofs.Total.{IsTotal, total-is-largest, supply-past-total}
 use Rattle.auction.proofs.Price.{Margin, marginPrice, marginPrice-margin, price-some, price-margin}
+use Rattle.auction.proofs.Levels.{level-under-price, level-over-price}
+use Rattle.auction.proofs.ByLevel.{ByLevel, byLevel-total, byLevel-whole, byLevel-nothing}
 use Rattle.auction.proofs.Optimal.{Separated, no-more-surplus, equal-surplus-clears-no-more}
 
 -- the amounts x clear by price
@@ -37,27 +39,6 @@ pub record Best (d : Demand) (o : Offers) (x : ℕ → ℕ) : Type 0 where
   pub most : (a : ℕ → ℕ) → Choice d o a → NoMoreSurplus d o a x
   -- none with equal surplus clears more
   pub largest : (a : ℕ → ℕ) → Choice d o a → NoMoreSurplus d o x a → total o a ≤ total o x
-
--- amounts that fill the total t from the lowest price upward
-pub record Fills (o : Offers) (t : ℕ) (x : ℕ → ℕ) : Type 0 where
-  -- no offer clears more than its quantity
-  pub within : (i : ℕ) → i < o .count → x i ≤ o .quantity i
-  -- together they are t
-  pub sum : total o x ≡ t
-  -- an offer whose level fits into t with all below it clears in full
-  pub whole : (i : ℕ) → i < o .count → supply o (o .price i) ≤ t → x i ≡ o .quantity i
-  -- an offer before whose level t is filled clears nothing
-  pub nothing : (i : ℕ) → i < o .count → t ≤ supplyBelow o (o .price i) → x i ≡ 0
-
--- amounts that fill the cleared total clear by price
-pub fills-byPrice : (d : Demand) (o : Offers) (x : ℕ → ℕ) → Falling d → Fills o (clearedTotal d o) x → ByPrice d o x
-fills-byPrice d o x falling f =
-    record {
-      within = f .within;
-      sum = f .sum;
-      whole = λ p e i l h. f .whole i l (price-margin d o p falling e .under (o .price i) h);
-      nothing = λ p e i l h. f .nothing i l (price-margin d o p falling e .over (o .price i) h);
-    }
 
 total-place : (o : Offers) (x : ℕ → ℕ) (i : ℕ) → i < o .count → x i ≤ total o x
 unfolding total
@@ -102,3 +83,18 @@ module _ (d : Demand) (o : Offers) (x : ℕ → ℕ) (falling : Falling d) (b : 
             equal-surplus-clears-no-more d o _ x byPrice-separated a c e
             (supply-past-total d o (total o x) falling byPrice-total);
       }
+
+-- amounts that divide the cleared total by levels clear by price
+pub byLevel-byPrice : (d : Demand) (o : Offers) (x : ℕ → ℕ) → Falling d → ByLevel o (clearedTotal d o) x → ByPrice d o x
+byLevel-byPrice d o x falling b =
+    let t = clearedTotal d o in
+    record {
+      within = b .within;
+      sum = byLevel-total o t x b (le-trans (total-is-largest d o .supplied) (supply-all o (d .price t)));
+      whole = λ p e i l h. byLevel-whole o t x b i l (level-under-price d o t p _ (price-margin d o p falling e) h);
+      nothing = λ p e i l h. byLevel-nothing o t x b i l (level-over-price d o t p _ (price-margin d o p falling e) h);
+    }
+
+-- so they are the best choice
+pub byLevel-best : (d : Demand) (o : Offers) (x : ℕ → ℕ) → Falling d → ByLevel o (clearedTotal d o) x → Best d o x
+byLevel-best d o x falling b = byPrice-best d o x falling (byLevel-byPrice d o x falling b)

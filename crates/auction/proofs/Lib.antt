@@ -4,6 +4,7 @@ pub mod Total
 pub mod NextPrice
 pub mod Price
 pub mod Levels
+pub mod ByLevel
 pub mod Optimal
 pub mod Best
 pub mod OneMore

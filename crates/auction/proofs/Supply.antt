@@ -10,9 +10,10 @@ use native.Mathlib.Omega.{arith}
 use lib.Dec.{leb, ltb, eqb, leb·suc-zero, leb·suc-suc}
 use borrow.Author.Tests.{leb-true, ltb-true, eqb-true, le-leb, lt-leb, lt-ltb, le-ltb, eq-eqb, ne-eqb}
 use Rattle.laws.specs.Sum.{sumTo}
+use Rattle.laws.proofs.Sums.{sumTo-place}
 use Rattle.laws.proofs.Compare.{by-comparison}
 use Rattle.laws.proofs.Where.{sumWhere-implied, sumWhere-same, sumWhere-either, sumWhere-none}
-use Rattle.laws.proofs.Where.{sumWhere-all, sumWhere-place, sumWhere-found}
+use Rattle.laws.proofs.Where.{sumWhere-every, sumWhere-all, sumWhere-place, sumWhere-found}
 use Rattle.auction.specs.Offers.{Offers, supply, supplyBelow, levelSum}
 
 -- at a higher price no less is offered
@@ -66,6 +67,12 @@ supplyBelow-mono o p q h =
 pub supply-all : (o : Offers) (p : ℕ) → supply o p ≤ sumTo (o .quantity) (o .count)
 unfolding supply
 supply-all o p = sumWhere-all _ (o .quantity) (o .count)
+
+-- at a price that no offer passes, all quantities are offered
+pub supply-top : (o : Offers) → supply o (sumTo (o .price) (o .count)) ≡ sumTo (o .quantity) (o .count)
+unfolding supply
+supply-top o =
+    sumWhere-every _ (o .quantity) (o .count) (λ i l. le-leb _ _ (sumTo-place (o .price) (o .count) i l))
 
 -- an offer priced at or below p is part of what is offered there
 pub supply-place : (o : Offers) (p i : ℕ) → i < o .count → o .price i ≤ p → o .quantity i ≤ supply o p

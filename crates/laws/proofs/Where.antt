@@ -1,7 +1,8 @@
 -- Laws of `sumWhere`, the sum over those places that pass a test.
 --
--- In order: one place more; a test that implies another; equal tests; a test that is either of two; no place that passes;
--- all places; summands that are 0 where the test fails; one place that passes; a sum that is not 0 has a place that passes.
+-- In order: one place more; a test that implies another; equal tests; a test that is either of two; no place that passes,
+-- or every; all places; summands that are 0 where the test fails; one place that passes; ordered values; a sum that is not 0
+-- has a place that passes.
 -- Assumes nothing.
 use mathlib.Core.Path.{_≡_, refl, sym, ap₂, _∙_}
 use mathlib.Core.Bool.{Bool, true, false, cond, _||_, true≢false, false≢true}
@@ -10,6 +11,7 @@ use native.Mathlib.Nat.{le-refl, zero-add, add-zero}
 use native.Mathlib.Omega.{arith}
 use Rattle.laws.specs.Sum.{sumTo, sumWhere}
 use Rattle.laws.proofs.Cases.{by-test, cond-true, cond-false}
+use Rattle.laws.proofs.Compare.{sumTo-tight}
 use Rattle.laws.proofs.Sums.{sumTo-zero, sumTo-suc, sumTo-ext, sumTo-mono, sumTo-add, sumTo-none, sumTo-place}
 
 -- no place, nothing to add
@@ -71,6 +73,12 @@ pub sumWhere-none : (test : ℕ → Bool) (f : ℕ → ℕ) (n : ℕ)
 unfolding sumWhere
 sumWhere-none test f n h = sumTo-none _ n (λ i l. cond-false (test i) (f i) 0 (h i l))
 
+-- where every place passes, the sum is that over all
+pub sumWhere-every : (test : ℕ → Bool) (f : ℕ → ℕ) (n : ℕ)
+    → ((i : ℕ) → i < n → test i ≡ true) → sumWhere test f n ≡ sumTo f n
+unfolding sumWhere
+sumWhere-every test f n h = sumTo-ext _ f n (λ i l. cond-true (test i) (f i) 0 (h i l))
+
 cond-at-most : (t : Bool) (v : ℕ) → cond t v 0 ≤ v
 cond-at-most true v = le-refl v
 cond-at-most false v = omega arith
@@ -96,6 +104,18 @@ pub sumWhere-place : (test : ℕ → Bool) (f : ℕ → ℕ) (n i : ℕ) → i <
 unfolding sumWhere
 sumWhere-place test f n i l e =
     omega (arith, sumTo-place (λ j. cond (test j) (f j) 0) n i l, cond-true (test i) (f i) 0 e)
+
+cond-ordered : (t : Bool) (a b : ℕ) → a ≤ b → cond t a 0 ≤ cond t b 0
+cond-ordered true a b h = h
+cond-ordered false a b h = le-refl 0
+
+-- where the values are ordered and the sums are equal, so is each value at a place that passes
+pub sumWhere-tight : (test : ℕ → Bool) (f g : ℕ → ℕ) (n : ℕ) → ((i : ℕ) → i < n → f i ≤ g i)
+    → sumWhere test g n ≤ sumWhere test f n → (i : ℕ) → i < n → test i ≡ true → g i ≤ f i
+unfolding sumWhere
+sumWhere-tight test f g n h e i l t =
+    rw (← cond-true (test i) (f i) 0 t, ← cond-true (test i) (g i) 0 t)
+    (sumTo-tight _ _ n (λ j m. cond-ordered (test j) (f j) (g j) (h j m)) e i l)
 
 -- a sum that is not 0 has a place that passes
 pub sumWhere-found : (test : ℕ → Bool) (f : ℕ → ℕ) (n : ℕ)
