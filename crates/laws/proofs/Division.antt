@@ -5,7 +5,7 @@
 use mathlib.Core.Path.{_≡_, ap, _∙_}
 use mathlib.Core.Bool.{Bool, cond, _&&_}
 use Prim.Native.Nat.{ℕ, _+_, _-_, _*_, _/_, _%_, _≤_, _<_}
-use native.Mathlib.Nat.{div-add-mod', mod-lt, add-mul, mul-comm, mul-zero, zero-div, mul-div-cancel, mul-le-mul-left}
+use native.Mathlib.Nat.{div-add-mod', mod-lt, add-mul, mul-comm, mul-le-mul-left}
 use native.Mathlib.Nat.{le-of-mul-le-mul-right, lt-of-mul-lt-mul-right}
 use native.Mathlib.Omega.{arith}
 use lib.Dec.{ltb}
@@ -62,15 +62,6 @@ module _ (d : Division) where
   -- and less where a remainder is left
   pub partDown-room : d .amount ≤ whole d → (i : ℕ) → 0 < partLeft d i → partDown d i < d .weight i
   partDown-room most i l = lt-of-mul-lt-mul-right (whole d) (omega (arith, part-bound most i))
-
-  -- all weights together divide into the weights, and nothing into nothing
-  pub partDown-whole : 0 < whole d → d .amount ≡ whole d → (i : ℕ) → partDown d i ≡ d .weight i
-  unfolding partDown
-  partDown-whole pos e i = ap (λ (a : ℕ). d .weight i * a / whole d) e ∙ mul-div-cancel (d .weight i) pos
-
-  pub partDown-none : d .amount ≡ 0 → (i : ℕ) → partDown d i ≡ 0
-  unfolding partDown
-  partDown-none e i = rw (e, mul-zero) (zero-div _)
 
   weighted-sum : sumOver d (λ i. d .weight i * d .amount) ≡ d .amount * whole d
   unfolding whole

@@ -1,7 +1,7 @@
 -- Strict orders of places, given by Boolean tests, and orders by one key after another.
 --
--- In order: three cases of two numbers; what a strict order is, and who stands level in it; the order by a key; the order
--- from its end; the order by a key first and then by another order.
+-- In order: what a strict order is, and who stands level in it; the order by a key; the order from its end; the order by
+-- a key first and then by another order.
 -- Assumes nothing.
 use mathlib.Core.Path.{_≡_, refl, sym, _∙_}
 use mathlib.Core.Bool.{Bool, true, false, _&&_, _||_, true≢false}
@@ -9,12 +9,7 @@ use Prim.Native.Nat.{ℕ, _<_}
 use native.Mathlib.Omega.{arith}
 use lib.Dec.{ltb, eqb}
 use borrow.Author.Tests.{ltb-true, ltb-false, lt-ltb, le-ltb, eq-eqb, ne-eqb}
-use Rattle.laws.proofs.Cases.{by-order, by-equality}
-
--- under, equal or over
-pub by-comparison {ℓ} : {X : Type ℓ} (a b : ℕ) → (a < b → X) → (a ≡ b → X) → (b < a → X) → X
-by-comparison a b f g h =
-    by-order b a (λ l. by-equality a b g (λ n. h (omega arith))) f
+pub use Rattle.laws.proofs.Compare.{by-comparison}
 
 -- nothing stands before itself, and what stands before one that stands before a third stands before the third
 pub record StrictOrder (before : ℕ → ℕ → Bool) : Type 0 where
