@@ -19,6 +19,11 @@ use Rattle.auction.specs.Shares.{levelAmount, shareDown, remainder, ahea
 use Rattle.auction.proofs.LevelDivision.{levelDivision, division-whole, division-down, division-left}
 use Rattle.auction.proofs.LevelDivision.{division-share, division-first, levelAmount-most, levelSum-positive}
 
+-- an offer clears no less than its exact part rounded down
+pub share-least : (o : Offers) (x i : ℕ) → shareDown o x i ≤ cleared o x i
+unfolding cleared
+share-least o x i = omega arith
+
 module _ (o : Offers) (x : ℕ) (proper : Proper o) where
   module _ (i : ℕ) (l : i < o .count) where
     abbrev own : division.Division

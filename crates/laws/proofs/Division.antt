@@ -14,11 +14,15 @@ use Rattle.laws.specs.Sum.{sumWhere, countWhere}
 use Rattle.laws.proofs.Cases.{by-order}
 use Rattle.laws.proofs.Summands.{sumWhere-ext, sumWhere-mono, sumWhere-add, sumWhere-mul, sumWhere-ones}
 
--- an amount for those of the first places that are within, each by its weight
+-- an amount to be divided among some of the first places
 pub record Division : Type 0 where
+  -- the places among which it is divided
   pub within : ℕ → Bool
+  -- what each part is in proportion to
   pub weight : ℕ → ℕ
+  -- how many places are looked at
   pub places : ℕ
+  -- what is divided
   pub amount : ℕ
 
 -- a sum over the places within

@@ -11,9 +11,11 @@ use lib.Dec.{ltb, eqb}
 use borrow.Author.Tests.{ltb-true, ltb-false, lt-ltb, le-ltb, eq-eqb, ne-eqb}
 pub use Rattle.laws.proofs.Compare.{by-comparison}
 
--- nothing stands before itself, and what stands before one that stands before a third stands before the third
+-- a test of two places that orders them strictly
 pub record StrictOrder (before : ℕ → ℕ → Bool) : Type 0 where
+  -- nothing stands before itself
   pub irreflexive : (i : ℕ) → before i i ≡ false
+  -- what stands before a second that stands before a third stands before the third
   pub transitive : (i j k : ℕ) → before i j ≡ true → before j k ≡ true → before i k ≡ true
 
 -- neither stands before the other

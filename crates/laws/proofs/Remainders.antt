@@ -24,10 +24,13 @@ use Rattle.laws.proofs.Division.{part-exact, partDown-most, partDown-ro
 unfoldable pub share : Division → (ℕ → ℕ → Bool) → ℕ → ℕ
 share d before i = partDown d i + cond (ltb (rankAmong (d .within) before (d .places) i) (spare d)) 1 0
 
--- an order of the places within, with no ties, in which the larger remainder stands first
+-- an order by which what is spare may be given out
 pub record LargestFirst (d : Division) (before : ℕ → ℕ → Bool) : Type 0 where
+  -- it is strict
   pub order : StrictOrder before
+  -- no two places within stand level
   pub untied : NoTies (d .within) before (d .places)
+  -- the larger remainder stands first
   pub larger : (i j : ℕ) → d .within i ≡ true → d .within j ≡ true → partLeft d i < partLeft d j → before j i ≡ true
 
 module _ (d : Division) (before : ℕ → ℕ → Bool) (some : 0 < whole d) (first : LargestFirst d before) where
