@@ -43,6 +43,7 @@ module _ (o : Offers) (x p i : ℕ) (at : o .price i ≡ p) where
   unfolding rank
   division-rank = rw (← at)
 
+-- so are the sums of the parts rounded down, the spare tenths and the shares
 pub division-downs : (o : Offers) (x p : ℕ)
     → sumOver (levelDivision o x p) (partDown (levelDivision o x p)) ≡ sumOver (levelDivision o x p) (shareDown o x)
 division-downs o x p = sumWhere-ext _ _ _ (o .count) (λ i l t. division-down o x p i (eqb-true (o .price i) p t))
@@ -69,6 +70,7 @@ division-first o x p proper =
       larger = λ i j v w. division-larger o x p i j (eqb-true (o .price i) p v) (eqb-true (o .price j) p w);
     }
 
+-- all weights together are the level's sum
 pub division-whole : (o : Offers) (x p : ℕ) → whole (levelDivision o x p) ≡ levelSum o p
 unfolding whole levelSum
 division-whole o x p = refl

@@ -11,3 +11,5 @@ pub mod OneMore
 pub mod LevelDivision
 pub mod ShareLaws
 pub mod Spares
+pub mod Cleared
+pub mod Committed

@@ -1,7 +1,6 @@
 -- How a price level's amount is divided among its offers: theorems of any total x.
 --
--- In order: a level that gets nothing; a share is the exact part rounded down or up, and at most the quantity; a level
--- that is whole; the shares of a level add up.
+-- In order: a share is the exact part rounded down or up, and at most the quantity; the shares of a level add up.
 -- Assumes nothing.
 use mathlib.Core.Path.{_≡_, refl, sym, _∙_}
 use mathlib.Core.Bool.{Bool, true}
@@ -20,11 +19,10 @@ use Rattle.auction.specs.Shares.{levelAmount, shareDown, remainder, ahea
 use Rattle.auction.proofs.LevelDivision.{levelDivision, division-whole, division-down, division-left}
 use Rattle.auction.proofs.LevelDivision.{division-share, division-first, levelAmount-most, levelSum-positive}
 
--- in a level that gets nothing, an offer clears nothing
-pub empty-level : (o : Offers) (x i : ℕ) → levelAmount o x (o .price i) ≡ 0 → cleared o x i ≡ 0
-empty-level o x i none =
-    let p = o .price i in
-    sym (division-share o x p i refl) ∙ parts.share-none (levelDivision o x p) (ahead o x) none i
+-- an offer clears no less than its exact part rounded down
+pub share-least : (o : Offers) (x i : ℕ) → shareDown o x i ≤ cleared o x i
+unfolding cleared
+share-least o x i = omega arith
 
 module _ (o : Offers) (x : ℕ) (proper : Proper o) where
   module _ (i : ℕ) (l : i < o .count) where
@@ -60,10 +58,6 @@ module _ (o : Offers) (x : ℕ) (proper : Proper o) where
     share-within =
         let most = levelAmount-most o x (o .price i) in
         rw (← same) (parts.share-most own (ahead o x) some first (rw division-whole most) i here)
-
-    -- in a level that is whole, an offer clears its quantity
-    pub whole-level : levelAmount o x (o .price i) ≡ levelSum o (o .price i) → cleared o x i ≡ o .quantity i
-    whole-level e = rw (← same) (parts.share-whole own (ahead o x) some first (rw division-whole e) i here)
 
   abbrev levelShares : ℕ → ℕ
   levelShares p = sumWhere (λ i. eqb (o .price i) p) (cleared o x) (o .count)

@@ -14,15 +14,17 @@ use Rattle.laws.proofs.Cases.{by-test, cond-true, cond-false}
 use Rattle.laws.proofs.Where.{sumWhere-zero, sumWhere-suc, sumWhere-same}
 use Rattle.laws.proofs.Where.{sumWhere-implied, sumWhere-either, sumWhere-place}
 
+-- no place, none to count
 pub countWhere-zero : (test : ℕ → Bool) → countWhere test 0 ≡ 0
 unfolding countWhere
 countWhere-zero test = sumWhere-zero test (λ i. 1)
 
+-- one place more counts if it passes
 pub countWhere-suc : (test : ℕ → Bool) (n : ℕ) → countWhere test (suc n) ≡ countWhere test n + cond (test n) 1 0
 unfolding countWhere
 countWhere-suc test n = sumWhere-suc test (λ i. 1) n
 
--- one place more, that passes or does not
+-- where it passes there is one more, where it does not the count is kept
 pub countWhere-more : (test : ℕ → Bool) (n : ℕ) → test n ≡ true → countWhere test (suc n) ≡ suc (countWhere test n)
 countWhere-more test n e = omega (arith, countWhere-suc test n, cond-true {X = ℕ} (test n) 1 0 e)
 
@@ -40,6 +42,7 @@ pub countWhere-within : (within s t : ℕ → Bool) (n : ℕ)
 unfolding countWhere
 countWhere-within within s t n h = sumWhere-same _ _ (λ i. 1) n (λ i l. and-agree (within i) (s i) (t i) (h i l))
 
+-- where s implies t, no more places pass s than t
 pub countWhere-mono : (s t : ℕ → Bool) (n : ℕ)
     → ((i : ℕ) → i < n → s i ≡ true → t i ≡ true) → countWhere s n ≤ countWhere t n
 unfolding countWhere

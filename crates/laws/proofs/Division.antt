@@ -5,7 +5,7 @@
 use mathlib.Core.Path.{_≡_, ap, _∙_}
 use mathlib.Core.Bool.{Bool, cond, _&&_}
 use Prim.Native.Nat.{ℕ, _+_, _-_, _*_, _/_, _%_, _≤_, _<_}
-use native.Mathlib.Nat.{div-add-mod', mod-lt, add-mul, mul-comm, mul-zero, zero-div, mul-div-cancel, mul-le-mul-left}
+use native.Mathlib.Nat.{div-add-mod', mod-lt, add-mul, mul-comm, mul-le-mul-left}
 use native.Mathlib.Nat.{le-of-mul-le-mul-right, lt-of-mul-lt-mul-right}
 use native.Mathlib.Omega.{arith}
 use lib.Dec.{ltb}
@@ -14,11 +14,15 @@ use Rattle.laws.specs.Sum.{sumWhere, countWhere}
 use Rattle.laws.proofs.Cases.{by-order}
 use Rattle.laws.proofs.Summands.{sumWhere-ext, sumWhere-mono, sumWhere-add, sumWhere-mul, sumWhere-ones}
 
--- an amount for those of the first places that are within, each by its weight
+-- an amount to be divided among some of the first places
 pub record Division : Type 0 where
+  -- the places among which it is divided
   pub within : ℕ → Bool
+  -- what each part is in proportion to
   pub weight : ℕ → ℕ
+  -- how many places are looked at
   pub places : ℕ
+  -- what is divided
   pub amount : ℕ
 
 -- a sum over the places within
@@ -42,10 +46,12 @@ unfoldable pub spare : Division → ℕ
 spare d = d .amount - sumOver d (partDown d)
 
 module _ (d : Division) where
+  -- a part rounded down, times all weights, and its remainder are the weight times the amount
   pub part-exact : (i : ℕ) → partDown d i * whole d + partLeft d i ≡ d .weight i * d .amount
   unfolding partDown partLeft
   part-exact i = div-add-mod' (d .weight i * d .amount) (whole d)
 
+  -- a remainder is less than all weights
   pub partLeft-less : 0 < whole d → (i : ℕ) → partLeft d i < whole d
   unfolding partLeft
   partLeft-less pos i = mod-lt (d .weight i * d .amount) pos
@@ -60,15 +66,6 @@ module _ (d : Division) where
   -- and less where a remainder is left
   pub partDown-room : d .amount ≤ whole d → (i : ℕ) → 0 < partLeft d i → partDown d i < d .weight i
   partDown-room most i l = lt-of-mul-lt-mul-right (whole d) (omega (arith, part-bound most i))
-
-  -- all weights together divide into the weights, and nothing into nothing
-  pub partDown-whole : 0 < whole d → d .amount ≡ whole d → (i : ℕ) → partDown d i ≡ d .weight i
-  unfolding partDown
-  partDown-whole pos e i = ap (λ (a : ℕ). d .weight i * a / whole d) e ∙ mul-div-cancel (d .weight i) pos
-
-  pub partDown-none : d .amount ≡ 0 → (i : ℕ) → partDown d i ≡ 0
-  unfolding partDown
-  partDown-none e i = rw (e, mul-zero) (zero-div _)
 
   weighted-sum : sumOver d (λ i. d .weight i * d .amount) ≡ d .amount * whole d
   unfolding whole

@@ -1,7 +1,7 @@
 -- Strict orders of places, given by Boolean tests, and orders by one key after another.
 --
--- In order: three cases of two numbers; what a strict order is, and who stands level in it; the order by a key; the order
--- from its end; the order by a key first and then by another order.
+-- In order: what a strict order is, and who stands level in it; the order by a key; the order from its end; the order by
+-- a key first and then by another order.
 -- Assumes nothing.
 use mathlib.Core.Path.{_≡_, refl, sym, _∙_}
 use mathlib.Core.Bool.{Bool, true, false, _&&_, _||_, true≢false}
@@ -9,16 +9,13 @@ use Prim.Native.Nat.{ℕ, _<_}
 use native.Mathlib.Omega.{arith}
 use lib.Dec.{ltb, eqb}
 use borrow.Author.Tests.{ltb-true, ltb-false, lt-ltb, le-ltb, eq-eqb, ne-eqb}
-use Rattle.laws.proofs.Cases.{by-order, by-equality}
+pub use Rattle.laws.proofs.Compare.{by-comparison}
 
--- under, equal or over
-pub by-comparison {ℓ} : {X : Type ℓ} (a b : ℕ) → (a < b → X) → (a ≡ b → X) → (b < a → X) → X
-by-comparison a b f g h =
-    by-order b a (λ l. by-equality a b g (λ n. h (omega arith))) f
-
--- nothing stands before itself, and what stands before one that stands before a third stands before the third
+-- a test of two places that orders them strictly
 pub record StrictOrder (before : ℕ → ℕ → Bool) : Type 0 where
+  -- nothing stands before itself
   pub irreflexive : (i : ℕ) → before i i ≡ false
+  -- what stands before a second that stands before a third stands before the third
   pub transitive : (i j k : ℕ) → before i j ≡ true → before j k ≡ true → before i k ≡ true
 
 -- neither stands before the other
@@ -37,6 +34,7 @@ thenBy key rest i j = ltb (key i) (key j) || (eqb (key i) (key j) && rest i j)
 abbrev pub reversed : (ℕ → ℕ → Bool) → ℕ → ℕ → Bool
 reversed before i j = before j i
 
+-- the order by a key is strict
 pub byKey-order : (key : ℕ → ℕ) → StrictOrder (byKey key)
 byKey-order key =
     record {
@@ -45,14 +43,17 @@ byKey-order key =
           lt-ltb (key i) (key k) (omega (arith, ltb-true (key i) (key j) a, ltb-true (key j) (key k) b));
     }
 
+-- those that stand level in it have equal keys
 pub byKey-tied : (key : ℕ → ℕ) (i j : ℕ) → Tied (byKey key) i j → key i ≡ key j
 byKey-tied key i j t = omega (arith, ltb-false (key i) (key j) (t .0), ltb-false (key j) (key i) (t .1))
 
+-- a strict order from its end is strict
 pub reversed-order : (before : ℕ → ℕ → Bool) → StrictOrder before → StrictOrder (reversed before)
 reversed-order before order =
     record { irreflexive = order .irreflexive; transitive = λ i j k a b. order .transitive k j i b a }
 
 module _ (key : ℕ → ℕ) (rest : ℕ → ℕ → Bool) where
+  -- the lower key stands first
   pub thenBy-lower : (i j : ℕ) → key i < key j → thenBy key rest i j ≡ true
   thenBy-lower i j l = rw (lt-ltb (key i) (key j) l)
 
@@ -81,6 +82,7 @@ module _ (key : ℕ → ℕ) (rest : ℕ → ℕ → Bool) where
       both : key i ≡ key k → rest i j ≡ true → rest j k ≡ true → thenBy key rest i k ≡ true
       both e q r = thenBy-equal i k e ∙ order .transitive i j k q r
 
+  -- the order by a key first and then by a strict order is strict
   pub thenBy-order : StrictOrder rest → StrictOrder (thenBy key rest)
   thenBy-order order =
       record {

@@ -1,7 +1,7 @@
 -- What rounding down leaves of a divided amount goes one each to the places with the largest remainders.
 --
 -- In order: a place's share, and the order; the shares add up; who gets one more has a remainder; a share is at most the
--- exact part rounded up, and at most the weight; an amount of all weights.
+-- exact part rounded up, and at most the weight.
 -- Assumes nothing.
 use mathlib.Core.Path.{_≡_}
 use mathlib.Core.Bool.{Bool, true, cond, _&&_}
@@ -10,7 +10,7 @@ use Prim.Native.Nat.{ℕ, suc, _+_, _*_, _≤_, _<_}
 use native.Mathlib.Nat.{le-trans, suc-mul}
 use native.Mathlib.Omega.{arith}
 use lib.Dec.{ltb}
-use borrow.Author.Tests.{ltb-true, le-ltb}
+use borrow.Author.Tests.{ltb-true}
 use Rattle.laws.specs.Sum.{countWhere}
 use Rattle.laws.proofs.Cases.{by-order, by-test, cond-true, cond-false, and-true, and-left, and-right}
 use Rattle.laws.proofs.Counts.{countWhere-mono}
@@ -18,27 +18,19 @@ use Rattle.laws.proofs.Summands.{sumWhere-add, sumWhere-ones}
 use Rattle.laws.proofs.Orders.{StrictOrder}
 use Rattle.laws.proofs.Ranks.{rankAmong, NoTies, ranks-fill}
 use Rattle.laws.proofs.Division.{Division, sumOver, whole, partDown, partLeft, spare, spare-rest, spare-most}
-use Rattle.laws.proofs.Division.{part-exact, partDown-most, partDown-room, partDown-whole, partDown-none}
+use Rattle.laws.proofs.Division.{part-exact, partDown-most, partDown-room}
 
 -- a place's share: its part rounded down, and one more where fewer stand before it than are spare
 unfoldable pub share : Division → (ℕ → ℕ → Bool) → ℕ → ℕ
 share d before i = partDown d i + cond (ltb (rankAmong (d .within) before (d .places) i) (spare d)) 1 0
 
-pub share-least : (d : Division) (before : ℕ → ℕ → Bool) (i : ℕ) → partDown d i ≤ share d before i
-unfolding share
-share-least d before i = omega arith
-
--- nothing divides into nothing
-pub share-none : (d : Division) (before : ℕ → ℕ → Bool) → d .amount ≡ 0 → (i : ℕ) → share d before i ≡ 0
-unfolding share spare
-share-none d before e i =
-    let last = le-ltb (rankAmong (d .within) before (d .places) i) (spare d) (omega arith) in
-    rw (partDown-none d e i, last)
-
--- an order of the places within, with no ties, in which the larger remainder stands first
+-- an order by which what is spare may be given out
 pub record LargestFirst (d : Division) (before : ℕ → ℕ → Bool) : Type 0 where
+  -- it is strict
   pub order : StrictOrder before
+  -- no two places within stand level
   pub untied : NoTies (d .within) before (d .places)
+  -- the larger remainder stands first
   pub larger : (i j : ℕ) → d .within i ≡ true → d .within j ≡ true → partLeft d i < partLeft d j → before j i ≡ true
 
 module _ (d : Division) (before : ℕ → ℕ → Bool) (some : 0 < whole d) (first : LargestFirst d before) where
@@ -102,8 +94,3 @@ module _ (d : Division) (before : ℕ → ℕ → Bool) (some : 0 < whole d) (fi
       (λ e. omega (arith, partDown-most d some most i))
       (λ e. omega (arith, partDown-room d most i (e .1)))
       (share-cases i w)
-
-  -- all weights together divide into the weights
-  pub share-whole : d .amount ≡ whole d → (i : ℕ) → d .within i ≡ true → share d before i ≡ d .weight i
-  share-whole e i w =
-      omega (arith, share-least d before i, partDown-whole d some e i, share-most (omega arith) i w)

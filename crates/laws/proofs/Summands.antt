@@ -13,6 +13,7 @@ cond-agree : (t : Bool) (a b : ℕ) → (t ≡ true → a ≡ b) → cond t a 0 
 cond-agree true a b h = h refl
 cond-agree false a b h = refl
 
+-- equal summands give equal sums
 pub sumWhere-ext : (test : ℕ → Bool) (f g : ℕ → ℕ) (n : ℕ)
     → ((i : ℕ) → i < n → test i ≡ true → f i ≡ g i) → sumWhere test f n ≡ sumWhere test g n
 unfolding sumWhere
@@ -22,6 +23,7 @@ cond-mono : (t : Bool) (a b : ℕ) → (t ≡ true → a ≤ b) → cond t a 0 �
 cond-mono true a b h = h refl
 cond-mono false a b h = le-refl 0
 
+-- summands that are no larger give a sum that is no larger
 pub sumWhere-mono : (test : ℕ → Bool) (f g : ℕ → ℕ) (n : ℕ)
     → ((i : ℕ) → i < n → test i ≡ true → f i ≤ g i) → sumWhere test f n ≤ sumWhere test g n
 unfolding sumWhere
@@ -31,6 +33,7 @@ cond-add : (t : Bool) (a b : ℕ) → cond t (a + b) 0 ≡ cond t a 0 + cond t b
 cond-add true a b = refl
 cond-add false a b = refl
 
+-- the sum of sums
 pub sumWhere-add : (test : ℕ → Bool) (f g : ℕ → ℕ) (n : ℕ)
     → sumWhere test (λ i. f i + g i) n ≡ sumWhere test f n + sumWhere test g n
 unfolding sumWhere
@@ -40,6 +43,7 @@ cond-mul : (t : Bool) (a k : ℕ) → cond t (a * k) 0 ≡ k * cond t a 0
 cond-mul true a k = mul-comm a k
 cond-mul false a k = sym (mul-zero k)
 
+-- a factor of each summand is a factor of the sum
 pub sumWhere-mul : (test : ℕ → Bool) (f : ℕ → ℕ) (k n : ℕ)
     → sumWhere test (λ i. f i * k) n ≡ sumWhere test f n * k
 unfolding sumWhere
