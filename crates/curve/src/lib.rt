@@ -6,7 +6,7 @@ ghost use Prim.Native.Nat.{_*_, _≤_, _<_};
 ghost use Rattle.laws.specs.Nearest.{nearest};
 ghost use Rattle.curve.specs.Points.{InRange, netCost, firstPrice, curveOf};
 ghost use Rattle.curve.specs.Shape.{Usable, Shaped, curve2026};
-ghost use Rattle.curve.specs.Price.{line, curvePrice};
+ghost use Rattle.curve.specs.Price.{line, tenthPrice, curvePrice};
 
 // What the region's curve is made from, every value given and in range.
 pub struct Terms {
@@ -126,21 +126,30 @@ fn between(pa: u32, pb: u32, qa: u32, qb: u32, k: u32) -> u32
     cents as u32
 }
 
+// The price at a quantity up to Q3.
+pub fn tenth_price(c: Curve, k: u32) -> CentsPerMwDay
+    requires { ⌜ Shaped c × (k ≤ c .q3) ⌝ }
+    ensures { λ r. ⌜ (r .0 ≡ tenthPrice c k) × (r .0 ≤ c .p1 .0) ⌝ }
+{
+    let p1 = c.p1;
+    let p2 = c.p2;
+    if k <= c.q1 {
+        return p1;
+    }
+    if k <= c.q2 {
+        return CentsPerMwDay(between(p1.0, p2.0, c.q1, c.q2, k));
+    }
+    CentsPerMwDay(between(p2.0, 0, c.q2, c.q3, k))
+}
+
 // The price at a quantity, or that there is none.
 pub fn price_at(c: Curve, k: u32) -> CurvePrice
     requires { ⌜ Shaped c ⌝ }
     ensures { λ r. ⌜ r ≡ curvePrice c k ⌝ }
 {
-    let p1 = c.p1;
-    let p2 = c.p2;
-    if k <= c.q1 {
-        return CurvePrice::Price(p1);
-    }
-    if k <= c.q2 {
-        return CurvePrice::Price(CentsPerMwDay(between(p1.0, p2.0, c.q1, c.q2, k)));
-    }
     if k <= c.q3 {
-        return CurvePrice::Price(CentsPerMwDay(between(p2.0, 0, c.q2, c.q3, k)));
+        CurvePrice::Price(tenth_price(c, k))
+    } else {
+        CurvePrice::NoPrice
     }
-    CurvePrice::NoPrice
 }
