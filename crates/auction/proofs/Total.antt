@@ -6,9 +6,10 @@ use Prim.Native.Nat.{ℕ, suc, _≤_, _<_, zero-le}
 use native.Mathlib.Nat.{le-suc, le-trans, not-suc-le-self}
 use native.Mathlib.Omega.{arith}
 use lib.Dec.{leb}
-use borrow.Author.Tests.{leb-true, le-leb, lt-leb}
+use borrow.Author.Tests.{leb-true, le-leb}
 use Rattle.laws.proofs.Cases.{by-order}
-use Rattle.laws.proofs.Largests.{largest-is, largest-passes, largest-found}
+use Rattle.laws.proofs.Largests.{Closed, largest-is, largest-passes}
+use Rattle.laws.proofs.Halving.{Halving, halving-met}
 use Rattle.auction.specs.Offers.{Offers, Demand, Falling, supply}
 use Rattle.auction.specs.Clearing.{clearedTotal}
 use Rattle.auction.proofs.Supply.{supply-mono}
@@ -17,7 +18,8 @@ use Rattle.auction.proofs.Supply.{supply-mono}
 abbrev pub Suppliable : Demand → Offers → ℕ → Type 0
 Suppliable d o k = k ≤ supply o (d .price k)
 
-abbrev supplies : Demand → Offers → ℕ → Bool
+-- the same as a test
+abbrev pub supplies : Demand → Offers → ℕ → Bool
 supplies d o k = leb k (supply o (d .price k))
 
 -- x is the largest quantity that the offers priced at or below the curve there can supply
@@ -52,16 +54,14 @@ unfolding Falling
 supplied-down d o falling k l h =
     omega (arith, supply-mono o (d .price (suc k)) (d .price k) (falling k (suc k) (le-suc k) l))
 
--- what a search by halves ends with: a quantity that can be supplied while the next one cannot is the cleared total
-pub total-found : (d : Demand) (o : Offers) → Falling d
-    → (x : ℕ) → x ≤ d .last → Suppliable d o x → (x < d .last → supply o (d .price (suc x)) < suc x) → x ≡ clearedTotal d o
+pub supplies-closed : (d : Demand) (o : Offers) → Falling d → Closed (supplies d o) (d .last)
+supplies-closed d o falling k l e = le-leb k _ (supplied-down d o falling k l (leb-true _ _ e))
+
+-- where the ends of a search by halves meet, they meet at the cleared total
+pub total-met : (d : Demand) (o : Offers) → Falling d
+    → (low high : ℕ) → Halving (supplies d o) (d .last) low high → high ≤ low → low ≡ clearedTotal d o
 unfolding clearedTotal
-total-found d o falling x l h f =
-    largest-found (supplies d o) (d .last) x
-    (λ k m e. le-leb k _ (supplied-down d o falling k m (leb-true _ _ e)))
-    l
-    (λ z. le-leb x _ h)
-    (λ m. lt-leb (suc x) _ (f m))
+total-met d o falling low high h l = halving-met (supplies d o) (d .last) low high (supplies-closed d o falling) h l
 
 -- past the total, no more than it is offered at the curve price
 pub supply-past-total : (d : Demand) (o : Offers) (x : ℕ) → Falling d → IsTotal d o x
