@@ -1,1 +1,2 @@
 pub mod Stops
+pub mod Agree

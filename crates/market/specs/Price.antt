@@ -1,0 +1,26 @@
+-- The clearing price by the level at which the total stops.
+-- Assumes nothing.
+use Prim.Native.Nat.{ℕ}
+use mathlib.Core.Bool.{cond}
+use mathlib.Core.Option.{Option, none, some}
+use lib.Dec.{eqb, ltb}
+use Rattle.laws.specs.Largest.{lesser}
+use Rattle.curve.specs.Price.{tenthPrice}
+use Rattle.curve.specs.declared.Curve.{Curve}
+use Rattle.market.specs.declared.margin.Level.{Level}
+use Rattle.market.specs.declared.price.ClearingPrice.{ClearingPrice}
+use Rattle.market.specs.declared.price.ClearingPrice.the-variants.{Price, NoPrice}
+
+-- a price that may not be there, as the code says it
+abbrev pub asPrice : Option ℕ → ClearingPrice
+asPrice none = NoPrice
+asPrice (some p) = Price (record { 0 = p })
+
+-- the price of the level, where it has more than the total takes of it
+abbrev pub levelPrice : Level → Option ℕ
+levelPrice l = cond (ltb (l .total) (l .reach)) (some (l .price)) none
+
+-- no price where the total is 0; else the lesser of the curve price at the total and the level's price, if that is there
+unfoldable pub priceAt : Curve → Level → ClearingPrice
+priceAt c l =
+    cond (eqb (l .total) 0) NoPrice (asPrice (some (lesser (tenthPrice c (l .total)) (levelPrice l))))
