@@ -4,7 +4,7 @@
 -- down to 0 stays there.
 -- Assumes nothing.
 use mathlib.Core.Path.{_≡_, ap}
-use Prim.Native.Nat.{ℕ, _+_, _-_, _*_, _/_, _≤_, _<_}
+use Prim.Native.Nat.{ℕ, _+_, _-_, _*_, _≤_, _<_}
 use native.Mathlib.Nat.{add-zero, zero-add, mul-zero, zero-mul, mul-add, mul-div-cancel, zero-div}
 use native.Mathlib.Nat.{le-refl, mul-le-mul-right, sub-self, sub-eq-zero-of-le}
 use native.Mathlib.Omega.{arith}
@@ -13,25 +13,25 @@ use Rattle.laws.proofs.Quotients.{div-mono}
 use Rattle.curve.specs.Price.{line}
 
 -- of two points the later has no more to divide
-weights-fall : (pa pb qa qb j k : ℕ) → pb ≤ pa → qa ≤ j → j ≤ k → k ≤ qb
+dividend-falls : (pa pb qa qb j k : ℕ) → pb ≤ pa → qa ≤ j → j ≤ k → k ≤ qb
     → pa * (qb - k) + pb * (k - qa) ≤ pa * (qb - j) + pb * (j - qa)
-weights-fall pa pb qa qb j k f a l u =
+dividend-falls pa pb qa qb j k f a l u =
     let before : qb - j ≡ (qb - k) + (k - j) = omega arith in
     let after : k - qa ≡ (j - qa) + (k - j) = omega arith in
     rw (before, after)
     (omega (arith, mul-add pa (qb - k) (k - j), mul-add pb (j - qa) (k - j), mul-le-mul-right (k - j) f))
 
 -- what is divided is at most the first price times the distance
-pub weights-most : (pa pb qa qb k : ℕ) → pb ≤ pa → qa ≤ k → k ≤ qb
+pub dividend-most : (pa pb qa qb k : ℕ) → pb ≤ pa → qa ≤ k → k ≤ qb
     → pa * (qb - k) + pb * (k - qa) ≤ pa * (qb - qa)
-weights-most pa pb qa qb k f a u =
-    omega (arith, weights-fall pa pb qa qb qa k f (le-refl qa) a u, mul-zero pb, ap (λ (d : ℕ). pb * d) (sub-self qa))
+dividend-most pa pb qa qb k f a u =
+    omega (arith, dividend-falls pa pb qa qb qa k f (le-refl qa) a u, mul-zero pb, ap (λ (d : ℕ). pb * d) (sub-self qa))
 
 -- a line to a lower price never rises
 pub line-falls : (pa pb qa qb : ℕ) → pb ≤ pa → qa < qb → FallsFrom (line pa pb qa qb) qa qb
 unfolding line
 line-falls pa pb qa qb f r j k a l u =
-    div-mono _ _ (qb - qa) (omega arith) (weights-fall pa pb qa qb j k f a l u)
+    div-mono _ _ (qb - qa) (omega arith) (dividend-falls pa pb qa qb j k f a l u)
 
 -- it starts at its first point
 pub line-start : (pa pb qa qb : ℕ) → qa < qb → line pa pb qa qb qa ≡ pa

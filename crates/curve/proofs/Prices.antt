@@ -1,7 +1,7 @@
 -- Laws of the curve price.
 --
--- In order: the price and the answer on each part of a curve; of any curve whose points go right and never up, the price at
--- Q2 and Q3, that the price never rises, and the highest price.
+-- In order: the price and the answer on each part of a curve; of any curve whose points go right and never up, the price
+-- at Q2 and Q3, that the price never rises, and the highest price.
 -- Assumes nothing.
 use mathlib.Core.Path.{_≡_, sym, ap, _∙_}
 use Prim.Native.Nat.{ℕ, _≤_, _<_}

@@ -1,7 +1,7 @@
 -- The points of a curve made by usable weights from terms in range go right and never up.
 --
 -- In order: two quantities that stand far enough apart; the highest quantity; the highest net cost; the two prices; the
--- curve; usable weights.
+-- curve; the weights of 2026, and those of 2022.
 -- Assumes nothing.
 use mathlib.Core.Path.{_≡_, sym, subst}
 use Prim.Native.Nat.{ℕ, _+_, _-_, _*_, max, _≤_, _<_}
@@ -14,7 +14,7 @@ use Rattle.curve.specs.declared.Curve.{Curve}
 use Rattle.curve.specs.declared.Terms.{Terms}
 use Rattle.curve.specs.declared.Weights.{Weights}
 use Rattle.curve.specs.Points.{InRange, netCost, firstPrice, secondPrice, quantityAt, curveOf}
-use Rattle.curve.specs.Shape.{Usable, Shaped, weights2026}
+use Rattle.curve.specs.Shape.{Usable, Shaped, weights2026, curve2026}
 
 -- two parts of a requirement of 1,000 tenths or more, apart by a thousandth of the whole or more, are different tenths
 pub quantity-grows : (r a b whole : ℕ) → 0 < whole → 1000 ≤ r → whole + 1000 * a ≤ 1000 * b
@@ -74,6 +74,10 @@ module _ (w : Weights) (whole : ℕ) (t : Terms) (u : Usable w whole) (h : InRan
 -- the weights of 2026 are usable
 pub y2026-usable : Usable weights2026 10000
 y2026-usable = omega arith
+
+-- so every curve from 2026 on goes right and never up
+pub curve2026-shaped : (t : Terms) → InRange t → Shaped (curve2026 t)
+curve2026-shaped t h = curve-shaped weights2026 10000 t y2026-usable h
 
 -- the weights that the tariff sets for 2022 to 2025 are usable too, with any reserve margin up to 50 percent
 pub y2022-usable : (margin : ℕ) → margin ≤ 5000

@@ -12,7 +12,7 @@ pub record Usable (w : Weights) (whole : ℕ) : Type 0 where
   pub second-most : w .second ≤ w .first
   -- point 1 weighs it by 1.75 at most
   pub first-most : w .first ≤ 7
-  -- point 1 stands over nothing
+  -- point 1 stands at more than nothing
   pub under-most : w .under < whole
   -- points 1 and 2 are a tenth or more apart at the least requirement
   pub first-apart : whole ≤ 1000 * (w .under + w .over)

@@ -1,7 +1,7 @@
--- The starred cases of the outline, in its order, each computed from the definitions; at the end two halves, which go upward.
+-- The starred cases of the outline, in its order, each computed from the definitions; at the end two halves.
 --
--- Offers are written as in the outline, a quantity at a price. Their outcome is the total, the price or none, and what each
--- row clears.
+-- Offers are written as in the outline, a quantity at a price. Their outcome is the total, the price or none, and what
+-- each row clears.
 -- Assumes nothing.
 use mathlib.Core.Path.{_≡_, refl}
 use mathlib.Core.List.{[], _∷_}

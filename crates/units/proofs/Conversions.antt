@@ -1,7 +1,6 @@
 -- Laws of the conversion: a dearer amount is never cheaper by the day, and the highest price that terms in range can give.
 -- Assumes nothing.
 use Prim.Native.Nat.{ℕ, _-_, _*_, _≤_, _<_}
-use native.Mathlib.Nat.{mul-le-mul-right}
 use native.Mathlib.Omega.{arith}
 use Rattle.laws.proofs.Nearests.{nearest-mono, nearest-most}
 use Rattle.units.specs.Conversion.{dailyCents}

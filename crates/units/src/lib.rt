@@ -16,6 +16,7 @@ pub fn daily(amount: DollarsPerMwYear, quarters: u32, outage: u32) -> CentsPerMw
 {
     let exact = amount.0 as u64 * quarters as u64 * 100 * 10000;
     let over = 4 * 365 * (10000 - outage as u64);
-    let cents = (2 * exact + over) / (2 * over);
-    CentsPerMwDay(cents as u32)
+    let nearest = (2 * exact + over) / (2 * over);
+    let cents = nearest as u32;
+    CentsPerMwDay(cents)
 }

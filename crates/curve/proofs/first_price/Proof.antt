@@ -1,7 +1,7 @@
 -- `curve::first_price` meets its contract: the test picks the greater of the two amounts.
 -- Assumes nothing.
-use mathlib.Core.Path.{_≡_, ap, sym, _∙_}
-use Prim.Native.Nat.{ℕ, _*_, _≤_, _<_, max}
+use mathlib.Core.Path.{_≡_, _∙_}
+use Prim.Native.Nat.{ℕ, _*_, _≤_, _<_}
 use native.Mathlib.Nat.{max-eq-left, max-eq-right, le-of-lt}
 use native.Mathlib.Omega.{arith}
 use borrow.Author.Needs.{needs}
@@ -44,13 +44,13 @@ daily-requires-2 c κs = search needs
 
 returns : tie.Need-returns
 returns c =
-    let at = c .before .before .before .before in
-    c .daily .ensures .0 ∙ price-net _ _ _ (at .before .net-cost .ensures) (c .before .if1 .taken)
+    c .daily .ensures .0
+    ∙ price-net _ _ _ (c .before .before .before .before .before .net-cost .ensures) (c .before .if1 .taken)
 
 returns-2 : tie.Need-returns-2
 returns-2 c =
-    let at = c .before .before .before .before in
-    c .daily2 .ensures .0 ∙ price-gross _ _ _ (at .before .net-cost .ensures) (c .before .if1 .left)
+    c .daily2 .ensures .0
+    ∙ price-gross _ _ _ (c .before .before .before .before .before .net-cost .ensures) (c .before .if1 .left)
 
 pub first-price-spec : {M : Type 1} → statement M
 first-price-spec =

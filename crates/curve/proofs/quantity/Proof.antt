@@ -32,7 +32,8 @@ div-tenths c = search needs
 cast-result : tie.Need-cast-result
 unfolding nearest
 cast-result c =
-    omega (arith, quantity-most (c .args .requirement) (c .args .weight) (c .args .whole) (c .pre .2) (c .pre .0) (c .pre .1))
+    let a = c .args in
+    omega (arith, quantity-most (a .requirement) (a .weight) (a .whole) (c .pre .2) (c .pre .0) (c .pre .1))
 
 returns : tie.Need-returns
 unfolding nearest

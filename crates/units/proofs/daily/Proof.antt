@@ -41,21 +41,21 @@ sub-over c = search needs
 mul-over-2 : tie.Need-mul-over-2
 mul-over-2 c = search needs
 
-mul-cents : tie.Need-mul-cents
-mul-cents c = omega (arith, quarters-most c)
+mul-nearest : tie.Need-mul-nearest
+mul-nearest c = omega (arith, quarters-most c)
 
-add-cents : tie.Need-add-cents
-add-cents c = omega (arith, quarters-most c)
+add-nearest : tie.Need-add-nearest
+add-nearest c = omega (arith, quarters-most c)
 
-mul-cents-2 : tie.Need-mul-cents-2
-mul-cents-2 c = search needs
+mul-nearest-2 : tie.Need-mul-nearest-2
+mul-nearest-2 c = search needs
 
-div-cents : tie.Need-div-cents
-div-cents c = search needs
+div-nearest : tie.Need-div-nearest
+div-nearest c = search needs
 
-cast-t11 : tie.Need-cast-t11
+cast-cents : tie.Need-cast-cents
 unfolding dailyCents nearest
-cast-t11 c = omega (arith, price-most c)
+cast-cents c = omega (arith, price-most c)
 
 returns : tie.Need-returns
 unfolding dailyCents nearest
@@ -72,9 +72,9 @@ daily-spec =
     mul-over
     sub-over
     mul-over-2
-    mul-cents
-    add-cents
-    mul-cents-2
-    div-cents
-    cast-t11
+    mul-nearest
+    add-nearest
+    mul-nearest-2
+    div-nearest
+    cast-cents
     returns)
