@@ -17,3 +17,4 @@ pub mod Compare
 pub mod Quotients
 pub mod Nearests
 pub mod Pieces
+pub mod Products
