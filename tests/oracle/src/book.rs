@@ -53,7 +53,7 @@ pub struct Book {
 
 /// Reads a book: refused by 1, then by 2 at the lowest block, then by 3 at the lowest block.
 pub fn read(bytes: &[u8]) -> Result<Book, Fault> {
-    if bytes.len() % BLOCK != 0 || bytes.len() < BLOCK || bytes.len() > LONGEST {
+    if !bytes.len().is_multiple_of(BLOCK) || bytes.len() < BLOCK || bytes.len() > LONGEST {
         return Err((1, 0));
     }
     let blocks: Vec<&[u8]> = bytes.chunks(BLOCK).collect();

@@ -16,7 +16,7 @@ impl Rng {
         Rng(seed)
     }
 
-    pub fn next(&mut self) -> u64 {
+    pub fn draw(&mut self) -> u64 {
         self.0 = self.0.wrapping_add(0x9E37_79B9_7F4A_7C15);
         let mixed = (self.0 ^ (self.0 >> 30)).wrapping_mul(0xBF58_476D_1CE4_E5B9);
         let mixed = (mixed ^ (mixed >> 27)).wrapping_mul(0x94D0_49BB_1331_11EB);
@@ -25,20 +25,20 @@ impl Rng {
 
     /// A number from `least` to `most`.
     pub fn between(&mut self, least: u64, most: u64) -> u64 {
-        least + self.next() % (most - least + 1)
+        least + self.draw() % (most - least + 1)
     }
 
     /// True so many times in a hundred.
     pub fn percent(&mut self, times: u64) -> bool {
-        self.next() % 100 < times
+        self.draw() % 100 < times
     }
 
     pub fn pick<T: Clone>(&mut self, from: &[T]) -> T {
-        from[self.next() as usize % from.len()].clone()
+        from[self.draw() as usize % from.len()].clone()
     }
 
     pub fn index(&mut self, length: usize) -> usize {
-        self.next() as usize % length
+        self.draw() as usize % length
     }
 
     pub fn between32(&mut self, least: u32, most: u32) -> u32 {
@@ -85,7 +85,7 @@ pub(crate) fn offers_told(book: &[u8]) -> usize {
 
 /// A random book: six in ten valid, the others faulty in their values, damaged, or of bytes that never were a book.
 pub fn book(rng: &mut Rng) -> Vec<u8> {
-    match rng.next() % 100 {
+    match rng.draw() % 100 {
         0..=59 => valid::book(rng),
         60..=74 => wrong::faulty(rng),
         75..=94 => wrong::damaged(rng),

@@ -36,9 +36,12 @@ fn half_clear_and_every_refusal_occurs() {
     assert!(seen.iter().all(|&times| times >= CALLS / 100), "{seen:?}");
 }
 
+/// What a clearing may show, and whether one shows it.
+type Kind = (&'static str, fn(&Clearing, &[u8]) -> bool);
+
 #[test]
 fn clearings_of_every_kind_occur() {
-    let kinds: [(&str, fn(&Clearing, &[u8]) -> bool); 7] = [
+    let kinds: [Kind; 7] = [
         ("offers but no price", |c, _| c.price.is_none() && !c.rows.is_empty()),
         ("a price of zero", |c, _| c.price == Some(0)),
         ("make-whole", |c, _| c.make_whole > 0),

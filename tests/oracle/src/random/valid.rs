@@ -22,13 +22,13 @@ fn parameters(rng: &mut Rng) -> Parameters {
     if rng.percent(20) {
         return make::reference();
     }
-    let cost = match rng.next() % 6 {
+    let cost = match rng.draw() % 6 {
         0 => 1_000_000,
         1 => rng.between32(1, 3),
         2 => 146 * rng.between32(1, 1_000),
         _ => rng.between32(1, 1_000_000),
     };
-    let offset = match rng.next() % 5 {
+    let offset = match rng.draw() % 5 {
         0 => 0,
         1 => cost,
         2 => cost - 1,
@@ -36,7 +36,7 @@ fn parameters(rng: &mut Rng) -> Parameters {
     };
     let any_outage = rng.between32(0, 5_000);
     let outage = rng.pick(&[0, 2_000, 5_000, any_outage, any_outage]);
-    let requirement = match rng.next() % 10 {
+    let requirement = match rng.draw() % 10 {
         0 => 2_000_000,
         1 => 1_000,
         2 => rng.between32(1_000, 2_000_000),
@@ -49,7 +49,7 @@ fn parameters(rng: &mut Rng) -> Parameters {
 
 /// How many offers: mostly few, sometimes around a full block, sometimes very many.
 fn number_of_offers(rng: &mut Rng) -> usize {
-    let number = match rng.next() % 20 {
+    let number = match rng.draw() % 20 {
         0 => 0,
         1..=7 => rng.between(1, 4),
         8..=12 => rng.between(5, 20),
@@ -88,7 +88,7 @@ fn quantities(rng: &mut Rng, number: usize, points: &[Point; 3]) -> Vec<u32> {
     // So much each that together they come near the curve's points, however many they are.
     let even = (points[1].quantity / number.max(1) as u32).clamp(1, 200_000);
     let one = rng.between32(1, 2 * even).min(200_000);
-    let kind = rng.next() % 8;
+    let kind = rng.draw() % 8;
     let mut quantities: Vec<u32> = (0..number)
         .map(|_| match kind {
             0 => one,
@@ -117,7 +117,7 @@ fn first_fills(rng: &mut Rng, quantities: &mut [u32], points: &[Point; 3]) {
 
 fn prices(rng: &mut Rng, quantities: &[u32], points: &[Point; 3]) -> Vec<u32> {
     let first = points[0].price;
-    let kind = rng.next() % 8;
+    let kind = rng.draw() % 8;
     let few: Vec<u32> = (0..rng.between(1, 5)).map(|_| near_the_curve(rng, points)).collect();
     let start = rng.between32(0, 1_000_000 - 600);
     let mut sum = 0;
@@ -140,7 +140,7 @@ fn prices(rng: &mut Rng, quantities: &[u32], points: &[Point; 3]) -> Vec<u32> {
 
 /// A price at one of the curve's points, or on its slopes, or a cent beside.
 fn near_the_curve(rng: &mut Rng, points: &[Point; 3]) -> u32 {
-    let price = match rng.next() % 6 {
+    let price = match rng.draw() % 6 {
         0 => points[0].price,
         1 => points[1].price,
         2 => 0,
@@ -151,7 +151,7 @@ fn near_the_curve(rng: &mut Rng, points: &[Point; 3]) -> u32 {
 }
 
 fn nudged(rng: &mut Rng, price: u32) -> u32 {
-    match rng.next() % 4 {
+    match rng.draw() % 4 {
         0 => price.saturating_sub(1),
         1 => (price + 1).min(1_000_000),
         _ => price,
@@ -159,21 +159,21 @@ fn nudged(rng: &mut Rng, price: u32) -> u32 {
 }
 
 fn stamps(rng: &mut Rng, number: usize) -> Vec<u64> {
-    let kind = rng.next() % 5;
-    let one = rng.next();
+    let kind = rng.draw() % 5;
+    let one = rng.draw();
     (0..number as u64)
         .map(|at| match kind {
             0 => one,
             1 => rng.between(0, 3),
             2 => 1_000 - at,
             3 => rng.pick(&[0, 1, u64::MAX, 1 << 63, (1 << 63) - 1, 1 << 32]),
-            _ => rng.next(),
+            _ => rng.draw(),
         })
         .collect()
 }
 
 fn blocks(rng: &mut Rng, quantities: &[u32]) -> Vec<Option<u32>> {
-    let kind = rng.next() % 4;
+    let kind = rng.draw() % 4;
     quantities
         .iter()
         .map(|&quantity| match kind {
@@ -187,7 +187,7 @@ fn blocks(rng: &mut Rng, quantities: &[u32]) -> Vec<Option<u32>> {
 /// Different resource numbers: in a run, a run of high ones, equal in their low 16 bits, or spread out.
 fn resources(rng: &mut Rng, number: usize) -> Vec<u32> {
     let low = rng.between32(1, 60_000);
-    let kind = rng.next() % 4;
+    let kind = rng.draw() % 4;
     let mut resources: Vec<u32> = (0..number as u32)
         .map(|at| match kind {
             0 => low + at,

@@ -19,7 +19,7 @@ pub fn faulty(rng: &mut Rng) -> Vec<u8> {
 
 fn spoil_parameter(rng: &mut Rng, p: &mut Parameters) {
     let over_cost = p.cost.unwrap_or(1_000_000).saturating_add(1);
-    match rng.next() % 9 {
+    match rng.draw() % 9 {
         0 => p.year = rng.pick(&[0, 1, 1999, 2025, 2100, 65_535]),
         1 => p.cost = rng.pick(&[Some(0), Some(1_000_001), Some(u32::MAX)]),
         2 => p.offset = rng.pick(&[Some(over_cost), Some(1_000_000), Some(1_000_001), Some(u32::MAX)]),
@@ -36,7 +36,7 @@ fn spoil_row(rng: &mut Rng, offers: &mut [Offer]) {
     let other = rng.pick(offers).resource;
     let row = rng.index(offers.len());
     let offer = &mut offers[row];
-    match rng.next() % 10 {
+    match rng.draw() % 10 {
         0 => offer.resource = 0,
         1 => offer.seller = 0,
         2 => offer.price = rng.pick(&[Some(1_000_001), Some(1 << 20), Some(u32::MAX)]),
@@ -68,7 +68,7 @@ fn damage(rng: &mut Rng, bytes: &mut [u8]) {
     let used = offers_told(bytes).saturating_sub(PLACES * at.max(1) - PLACES).clamp(1, PLACES);
     let last = bytes.len() - BLOCK;
     let block = &mut bytes[BLOCK * at..][..BLOCK];
-    match rng.next() % 13 {
+    match rng.draw() % 13 {
         0 => alter(rng, &mut block[..CHECKED]),
         1 => alter(rng, &mut block[CHECKED..]),
         2 => alter(rng, &mut block[..34]),
@@ -128,7 +128,7 @@ fn count_wrong(rng: &mut Rng, block: &mut [u8], at: usize) {
 
 /// Block 0: marks, the bytes set aside, or a byte that should be zero.
 fn spoil_head(rng: &mut Rng, block: &mut [u8]) {
-    match rng.next() % 5 {
+    match rng.draw() % 5 {
         0 => block[26] ^= 1 << rng.index(8),
         1 => {
             block[26] |= 16;
@@ -142,7 +142,7 @@ fn spoil_head(rng: &mut Rng, block: &mut [u8]) {
 
 /// A place: marks, the bytes set aside for steps and events, or the byte behind them.
 fn spoil_place(rng: &mut Rng, place: &mut [u8]) {
-    match rng.next() % 5 {
+    match rng.draw() % 5 {
         0 | 1 => place[28] ^= 1 << rng.index(3),
         2 => place[28] ^= 1 << rng.index(8),
         3 => place[rng.pick(&[29, 30, 31])] = rng.pick(&[1, 2, 3, 255]),
@@ -153,7 +153,7 @@ fn spoil_place(rng: &mut Rng, place: &mut [u8]) {
 fn change_length(rng: &mut Rng, bytes: &mut Vec<u8>) {
     let length = bytes.len();
     let blocks = length / BLOCK;
-    let new = match rng.next() % 5 {
+    let new = match rng.draw() % 5 {
         0 => rng.index(length + 1),
         1 => BLOCK * rng.index(blocks + 1),
         2 => length + 1 + rng.index(600),
@@ -166,7 +166,7 @@ fn change_length(rng: &mut Rng, bytes: &mut Vec<u8>) {
 /// Random bytes of any length, half of them sealed in blocks with the right letters; or a book of 601 offers and more.
 pub fn stray(rng: &mut Rng) -> Vec<u8> {
     if rng.percent(20) {
-        let offers: Vec<Offer> = (1..=601 + rng.next() as u32 % 40).map(|at| make::offer(at, 10, at, at.into())).collect();
+        let offers: Vec<Offer> = (1..=601 + rng.draw() as u32 % 40).map(|at| make::offer(at, 10, at, at.into())).collect();
         return make::book(&make::reference(), &offers);
     }
     let whole = BLOCK * rng.index(44);
