@@ -28,7 +28,7 @@ impl Auction {
             let offered: u64 = level.iter().map(|&key| u64::from(offers[row(key)].quantity)).sum();
             if !curve.buys(below + offered, price) {
                 let total = below.max(curve.last_at(price));
-                let price = (total > 0).then(|| price.min(curve.price_at(total)) as u32);
+                let price = Some(price.min(curve.price_at(total)) as u32);
                 let tied = full + level.len();
                 return Auction { total: total as u32, price, stack, full, tied, offered, shared: total - below };
             }

@@ -48,7 +48,8 @@ impl Book {
             return Err((2, at as u32));
         }
         let count = usize::from(u16_at(head, 24));
-        if !head_laid_out(head) || count > MOST_OFFERS || count.div_ceil(PLACES) != offer_blocks.len() {
+        // So few blocks hold no more than 600 offers, so a count that fits them needs no test of its own.
+        if !head_laid_out(head) || count.div_ceil(PLACES) != offer_blocks.len() {
             return Err((3, 0));
         }
         let mut offers = Vec::with_capacity(count);

@@ -1,9 +1,8 @@
-//! The same answers as the oracle's, and the same buffers, on random calls.
+//! The same answers as the oracle's, and the same buffers, on the calls of 20,000 seeds, or of as many as CALLS says.
 
 use oracle::random::{call, Call};
 use plain::{clear, Clearing, Outcome};
 
-const CALLS: u64 = 20_000;
 const UNTOUCHED: u32 = 0xDEAD_BEEF;
 
 /// What the oracle says the call returns, and leaves in buffers that held `UNTOUCHED`.
@@ -26,7 +25,8 @@ fn expected(call: &Call) -> (Outcome, Vec<u32>, Vec<u32>) {
 
 #[test]
 fn random_calls() {
-    for seed in 0..CALLS {
+    let calls = std::env::var("CALLS").map_or(20_000, |calls| calls.parse().unwrap());
+    for seed in 0..calls {
         let call = call(seed);
         let mut cleared = vec![UNTOUCHED; call.cleared_len];
         let mut committed = vec![UNTOUCHED; call.committed_len];

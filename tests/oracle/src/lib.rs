@@ -9,7 +9,8 @@
 //! The rest by module: `book` reads and checks bytes, `limits` holds the ranges, `clearing` is the auction as a function of a
 //! falling curve and priced offers, `make` writes books, `random` makes books and calls from a seed.
 //!
-//! Every sentence of the outline is written as directly as it can be read. Speed comes second.
+//! Every sentence of the outline is written as directly as it can be read. Speed comes second. `cargo test --release` here runs
+//! the outline's cases, an exhaustive search over small auctions, and the books of crates/verdicts/data.
 
 pub mod book;
 pub mod clearing;

@@ -1,7 +1,7 @@
 //! The random calls reach what they are meant to reach.
 
 use oracle::random::{call, valid, Rng};
-use oracle::{clear, price_at, Clearing, Outcome};
+use oracle::{clear, price_at, sound, Clearing, Outcome};
 
 const CALLS: u64 = 10_000;
 
@@ -34,6 +34,21 @@ fn half_clear_and_every_refusal_occurs() {
     println!("cleared, then refused by number: {seen:?}");
     assert!((CALLS * 45 / 100..CALLS * 60 / 100).contains(&seen[0]));
     assert!(seen.iter().all(|&times| times >= CALLS / 100), "{seen:?}");
+}
+
+/// Soundness differs from clearing only where clearing misses a value or room: there it may find a later fault, or none.
+#[test]
+fn soundness_agrees_with_clearing() {
+    for seed in 0..CALLS {
+        let fault = sound(&call(seed).book);
+        let agrees = match outcome(seed) {
+            Outcome::Cleared(_) | Outcome::Refused { number: 9, .. } => fault.is_none(),
+            Outcome::Refused { number: 4, .. } => fault.is_none_or(|(number, _)| [5, 7, 8].contains(&number)),
+            Outcome::Refused { number: 6, place } => fault.is_none_or(|(number, row)| [7, 8].contains(&number) && row >= place),
+            Outcome::Refused { number, place } => fault == Some((number, place)),
+        };
+        assert!(agrees, "seed {seed}: {fault:?}");
+    }
 }
 
 /// What a clearing may show, and whether one shows it.

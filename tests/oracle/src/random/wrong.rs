@@ -88,9 +88,10 @@ fn damage(rng: &mut Rng, bytes: &mut [u8]) {
     }
 }
 
-/// One byte altered to a different one.
+/// One byte altered to a different one, more often than others the first or the last.
 fn alter(rng: &mut Rng, bytes: &mut [u8]) {
-    let at = rng.index(bytes.len());
+    let any = rng.index(bytes.len());
+    let at = rng.pick(&[0, bytes.len() - 1, any, any, any, any]);
     bytes[at] ^= rng.pick(&[1, 2, 4, 128, 255, 3]);
 }
 
