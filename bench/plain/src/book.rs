@@ -1,0 +1,205 @@
+//! Reading: length, checks, layout, and the limits of the values.
+
+use crate::curve::Curve;
+use crate::Fault;
+use std::collections::HashSet;
+use std::hash::{BuildHasherDefault, Hasher};
+
+const BLOCK: usize = 512;
+const PLACE: usize = 32;
+const PLACES: usize = 15;
+const MOST_OFFERS: usize = 600;
+
+/// The values of block 0; those that are not marked in `marks` are 0.
+pub struct Parameters {
+    year: u16,
+    cost: u32,
+    offset: u32,
+    outage: u32,
+    requirement: u32,
+    marks: u8,
+}
+
+/// The values of a place. A flexible offer's block is 0, which changes nothing in what is committed.
+pub struct Offer {
+    pub resource: u32,
+    pub seller: u32,
+    pub price: u32,
+    pub quantity: u32,
+    pub block: u32,
+    pub stamp: u64,
+    marks: u8,
+}
+
+pub struct Book {
+    pub parameters: Parameters,
+    pub offers: Vec<Offer>,
+}
+
+impl Book {
+    /// Refusals 1, 2 and 3.
+    pub fn read(bytes: &[u8]) -> Result<Book, Fault> {
+        let (blocks, rest) = bytes.as_chunks::<BLOCK>();
+        let [head, offer_blocks @ ..] = blocks else { return Err((1, 0)) };
+        if !rest.is_empty() || offer_blocks.len() > MOST_OFFERS / PLACES {
+            return Err((1, 0));
+        }
+        if let Some(at) = blocks.iter().position(|block| !check_holds(block)) {
+            return Err((2, at as u32));
+        }
+        let count = usize::from(u16_at(head, 24));
+        // So few blocks hold no more than 600 offers, so a count that fits them needs no test of its own.
+        if !head_laid_out(head) || count.div_ceil(PLACES) != offer_blocks.len() {
+            return Err((3, 0));
+        }
+        let mut offers = Vec::with_capacity(count);
+        for (at, block) in offer_blocks.iter().enumerate() {
+            let used = (count - PLACES * at).min(PLACES);
+            read_offers(block, at + 1, used, &mut offers).ok_or((3, at as u32 + 1))?;
+        }
+        Ok(Book { parameters: Parameters::read(head), offers })
+    }
+
+    /// Refusals 6, 7 and 8.
+    pub fn check_offers(&self) -> Result<(), Fault> {
+        let mut seen = HashSet::with_capacity_and_hasher(self.offers.len(), BuildHasherDefault::<NumberHasher>::default());
+        for (row, offer) in self.offers.iter().enumerate() {
+            if offer.marks & 1 == 0 {
+                return Err((6, row as u32));
+            }
+            if !offer.in_range() {
+                return Err((7, row as u32));
+            }
+            if !seen.insert(offer.resource) {
+                return Err((8, row as u32));
+            }
+        }
+        Ok(())
+    }
+}
+
+impl Parameters {
+    fn read(head: &[u8; BLOCK]) -> Parameters {
+        Parameters {
+            year: u16_at(head, 6),
+            cost: u32_at(head, 8),
+            offset: u32_at(head, 12),
+            outage: u32_at(head, 16),
+            requirement: u32_at(head, 20),
+            marks: head[26],
+        }
+    }
+
+    /// The curve, or refusals 4 and 5.
+    pub fn curve(&self) -> Result<Curve, Fault> {
+        if self.marks != 0b1111 {
+            return Err((4, self.marks.trailing_ones() + 2));
+        }
+        let field = if !(2026..=2099).contains(&self.year) {
+            1
+        } else if !(1..=1_000_000).contains(&self.cost) {
+            2
+        } else if self.offset > self.cost {
+            3
+        } else if self.outage > 5_000 {
+            4
+        } else if !(1_000..=2_000_000).contains(&self.requirement) {
+            5
+        } else {
+            return Ok(Curve::new(self.cost, self.offset, self.outage, self.requirement));
+        };
+        Err((5, field))
+    }
+}
+
+impl Offer {
+    fn read(place: &[u8; PLACE]) -> Offer {
+        Offer {
+            resource: u32_at(place, 0),
+            seller: u32_at(place, 4),
+            price: u32_at(place, 8),
+            quantity: u32_at(place, 12),
+            block: u32_at(place, 16),
+            stamp: u64::from_le_bytes(place[20..28].try_into().unwrap()),
+            marks: place[28],
+        }
+    }
+
+    fn in_range(&self) -> bool {
+        self.resource != 0
+            && self.seller != 0
+            && self.price <= 1_000_000
+            && (1..=200_000).contains(&self.quantity)
+            && self.block <= self.quantity
+            && (self.marks & 2 == 0 || self.block != 0)
+    }
+}
+
+/// Both sums modulo 65,536, in 16-bit arithmetic.
+fn check_holds(block: &[u8; BLOCK]) -> bool {
+    let (mut plain, mut placed) = (0u16, 0u16);
+    for (at, &byte) in block[..508].iter().enumerate() {
+        plain = plain.wrapping_add(byte.into());
+        placed = placed.wrapping_add(u16::from(byte).wrapping_mul(at as u16 + 1));
+    }
+    plain == u16_at(block, 508) && placed == u16_at(block, 510)
+}
+
+fn head_laid_out(head: &[u8; BLOCK]) -> bool {
+    let marks = head[26];
+    head.starts_with(b"RPMB\x01\x00")
+        && marks < 16
+        && (0..4).all(|field| marks >> field & 1 == 1 || u32_at(head, 8 + 4 * field) == 0)
+        && zero(&head[27..508])
+}
+
+/// Adds a block's offers to the list, if the block is laid out as it should be.
+fn read_offers(block: &[u8; BLOCK], number: usize, used: usize, offers: &mut Vec<Offer>) -> Option<()> {
+    let (places, _) = block[28..508].as_chunks::<PLACE>();
+    let (places, unused) = places.split_at(used);
+    let opens = block.starts_with(b"OFRS") && u16_at(block, 4) == number as u16 && u16_at(block, 6) == used as u16;
+    if !opens || !zero(&block[8..28]) || !zero(unused.as_flattened()) {
+        return None;
+    }
+    for place in places {
+        let offer = Offer::read(place);
+        let absent_price = offer.marks & 1 == 0 && offer.price != 0;
+        let absent_block = offer.marks & 2 == 0 && offer.block != 0;
+        if u32_at(place, 28) > 3 || absent_price || absent_block {
+            return None;
+        }
+        offers.push(offer);
+    }
+    Some(())
+}
+
+fn zero(bytes: &[u8]) -> bool {
+    bytes.iter().fold(0, |all, byte| all | byte) == 0
+}
+
+fn u16_at(bytes: &[u8], at: usize) -> u16 {
+    u16::from_le_bytes(bytes[at..at + 2].try_into().unwrap())
+}
+
+fn u32_at(bytes: &[u8], at: usize) -> u32 {
+    u32::from_le_bytes(bytes[at..at + 4].try_into().unwrap())
+}
+
+/// A quick hash of 32-bit numbers: one multiplication, its high bits folded onto its low ones.
+#[derive(Default)]
+struct NumberHasher(u64);
+
+impl Hasher for NumberHasher {
+    fn write(&mut self, _: &[u8]) {
+        unreachable!("only 32-bit numbers are hashed")
+    }
+
+    fn write_u32(&mut self, number: u32) {
+        let product = u64::from(number).wrapping_mul(0x9E37_79B9_7F4A_7C15);
+        self.0 = product ^ product >> 32;
+    }
+
+    fn finish(&self) -> u64 {
+        self.0
+    }
+}

@@ -1,0 +1,60 @@
+//! Refusals 4 to 9: what the values of a well laid-out book may be. Each function gives the first fault of its kind.
+
+use crate::book::{Fault, Offer, Parameters};
+
+const MOST_COST: u32 = 1_000_000;
+
+/// 4: the first parameter that is missing.
+pub fn missing(p: &Parameters) -> Option<Fault> {
+    let given = [p.cost, p.offset, p.outage, p.requirement];
+    given.iter().position(|value| value.is_none()).map(|at| (4, at as u32 + 2))
+}
+
+/// 5: the first given parameter that is out of range. Where C is missing E may reach 1,000,000.
+pub fn out_of_range(p: &Parameters) -> Option<Fault> {
+    let within = |value: Option<u32>, least, most| value.is_none_or(|value| (least..=most).contains(&value));
+    let in_range = [
+        within(Some(p.year), 2026, 2099),
+        within(p.cost, 1, MOST_COST),
+        within(p.offset, 0, p.cost.unwrap_or(MOST_COST)),
+        within(p.outage, 0, 5_000),
+        within(p.requirement, 1_000, 2_000_000),
+    ];
+    in_range.iter().position(|&fits| !fits).map(|at| (5, at as u32 + 1))
+}
+
+/// 6, 7, 8: the fault of the first faulty row. A missing price is a fault only where one is needed.
+pub fn rows(offers: &[Offer], price_needed: bool) -> Option<Fault> {
+    (0..offers.len()).find_map(|row| {
+        let offer = &offers[row];
+        let number = if price_needed && offer.price.is_none() {
+            6
+        } else if !offer_in_range(offer) {
+            7
+        } else if offers[..row].iter().any(|earlier| earlier.resource == offer.resource) {
+            8
+        } else {
+            return None;
+        };
+        Some((number, row as u32))
+    })
+}
+
+fn offer_in_range(offer: &Offer) -> bool {
+    offer.resource >= 1
+        && offer.seller >= 1
+        && offer.price.is_none_or(|price| price <= 1_000_000)
+        && (1..=200_000).contains(&offer.quantity)
+        && offer.block.is_none_or(|block| (1..=offer.quantity).contains(&block))
+}
+
+/// 9: the first result buffer that is too short.
+pub fn buffers(offers: usize, cleared_len: usize, committed_len: usize) -> Option<Fault> {
+    if cleared_len < offers {
+        Some((9, 1))
+    } else if committed_len < offers {
+        Some((9, 2))
+    } else {
+        None
+    }
+}
