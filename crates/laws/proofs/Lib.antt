@@ -18,3 +18,4 @@ pub mod Quotients
 pub mod Nearests
 pub mod Pieces
 pub mod Products
+pub mod Fills

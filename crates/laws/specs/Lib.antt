@@ -1,3 +1,4 @@
 pub mod Sum
 pub mod Nearest
 pub mod Largest
+pub mod Filled
