@@ -1,0 +1,2 @@
+pub mod Auction
+pub mod Answer
