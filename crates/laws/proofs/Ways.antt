@@ -2,13 +2,18 @@
 --
 -- In order: a test that another function answered, which failed or held; a number under a bound; a number that was
 -- read, at most another or equal to it;
--- `ways`, the set of these laws, with which `search` finds the way that led to a return.
+-- `ways`, the set of these laws, with which `search` finds the way that led to a return; a loop over places, which leaves at the
+-- first that fails: one more place, the way out of it, its end.
 -- Assumes nothing.
 use mathlib.Core.Path.{_≡_, refl, sym, ap, _∙_}
 use mathlib.Core.Bool.{Bool, true, false, not, _&&_}
-use Prim.Native.Nat.{ℕ, _≤_, _<_}
+use Prim.Native.Nat.{ℕ, _+_, _≤_, _<_}
+use native.Mathlib.Numerals.{add-one}
 use lib.Dec.{ltb, leb, eqb}
 use borrow.Author.Tests.{lt-ltb, le-ltb, le-leb, lt-leb, eq-eqb, ne-eqb, not-true, not-false}
+use Rattle.laws.specs.Sum.{every}
+use Rattle.laws.proofs.Cases.{and-true}
+use Rattle.laws.proofs.Everys.{every-suc, every-false}
 
 stopped : (s t : Bool) → s ≡ false → false ≡ s && t
 stopped s t e = rw e
@@ -45,3 +50,19 @@ pub same-held : (r m n : ℕ) (t u : Bool) → r ≡ m → r ≡ n → u ≡ t �
 same-held r m n t u e h = went-on (eqb m n) t u (eq-eqb m n (sym e ∙ h))
 
 pub ruleset ways = (answer-failed, answer-held, under-failed, under-held, most-failed, most-held, same-failed, same-held)
+
+-- ---- a loop over places, of which `every` tells
+
+-- one more place
+pub place-held : (test : ℕ → Bool) (n : ℕ) {r : Bool}
+    → every test n ≡ true → r ≡ test n → not r ≡ false → every test (n + 1) ≡ true
+place-held test n {r} past e h =
+    rw (add-one, every-suc) (and-true (every test n) (test n) past (sym e ∙ not-false r h))
+
+-- a place that fails, at which the loop is left
+pub place-failed : (test : ℕ → Bool) (i n : ℕ) {r : Bool} → i < n → r ≡ test i → not r ≡ true → false ≡ every test n
+place-failed test i n {r} l e h = sym (every-false test n i l (sym e ∙ not-true r h))
+
+-- the end of the loop
+pub places-held : (test : ℕ → Bool) {n m : ℕ} → every test n ≡ true → n ≡ m → true ≡ every test m
+places-held test e h = rw h at (sym e)
