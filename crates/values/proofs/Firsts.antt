@@ -1,14 +1,16 @@
 -- Laws of tests that follow one another: `unless`, `andThen`, `first`.
 --
--- In order: a test that holds, and one that doesn't; what `unless` says of its test; two tests, of which the first passed or
--- refused, and both passed; a row of tests: none, one more, each passed, the earliest refusal, equal tests.
+-- In order: a test that holds, and one that doesn't; what `unless` says of its test, and of a test that the code answered; two
+-- tests, of which the first passed or refused, and both passed; a row of tests: none, one more, each passed, the earliest
+-- refusal, equal tests.
 -- Assumes nothing.
 use mathlib.Core.Path.{_≡_, refl, sym, ap₂, _∙_}
-use mathlib.Core.Bool.{Bool, true, false}
+use mathlib.Core.Bool.{Bool, true, false, not}
 use Prim.Native.Nat.{ℕ, zero, suc, _+_, _≤_, _<_}
 use native.Mathlib.Nat.{not-suc-le-zero}
 use native.Mathlib.Numerals.{add-one}
 use native.Mathlib.Omega.{arith}
+use borrow.Author.Tests.{not-true, not-false}
 use Rattle.laws.proofs.Cases.{by-order}
 use Rattle.values.specs.Refusals.{unless, andThen, first}
 use Rattle.values.specs.declared.Verdict.{Verdict}
@@ -28,6 +30,13 @@ unless-false false v e = refl
 pub unless-passed : (t : Bool) (number place : ℕ) → unless t (Refused number place) ≡ Passed → t ≡ true
 unless-passed true number place e = refl
 unless-passed false number place e = cc
+
+-- a test that the code answers with r
+pub unless-held : {r t : Bool} (v : Verdict) → r ≡ t → not r ≡ false → unless t v ≡ Passed
+unless-held {r} {t} v e h = unless-true t v (sym e ∙ not-false r h)
+
+pub unless-failed : {r t : Bool} (v : Verdict) → r ≡ t → not r ≡ true → unless t v ≡ v
+unless-failed {r} {t} v e h = unless-false t v (sym e ∙ not-true r h)
 
 -- ---- two tests
 
@@ -67,6 +76,10 @@ first-add-one test n = rw add-one (first-suc test n)
 -- where all that came before passed, the next test decides
 pub first-more : (test : ℕ → Verdict) (n : ℕ) → first test n ≡ Passed → first test (n + 1) ≡ test n
 first-more test n e = first-add-one test n ∙ andThen-next (first test n) (test n) e
+
+-- a test that passes after all that came before passed
+pub first-on : (test : ℕ → Verdict) (n : ℕ) → first test n ≡ Passed → test n ≡ Passed → first test (n + 1) ≡ Passed
+first-on test n e f = first-more test n e ∙ f
 
 -- where a row of tests passes, each of them does
 pub first-at : (test : ℕ → Verdict) (n i : ℕ) → first test n ≡ Passed → i < n → test i ≡ Passed
