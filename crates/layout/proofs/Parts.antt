@@ -25,6 +25,15 @@ pub place-part : (s : List ℕ) (i : ℕ) → take (28 + i * 32 + 32 - (28 + i *
 unfolding placeOf
 place-part s i = part-from s (28 + i * 32) 32
 
+-- a row's place of its block, as the code cuts both
+pub row-part : (b : List ℕ) (row : ℕ) →
+    let from = (1 + row / 15) * 512 in
+    let at = 28 + row % 15 * 32 in
+    take (at + 32 - at) (drop at (take (from + 512 - from) (drop from b))) ≡ rowOf b row
+unfolding rowOf
+row-part b row =
+    place-part _ (row % 15) ∙ ap (λ (s : List ℕ). placeOf s (row % 15)) (block-part b (1 + row / 15))
+
 part-length : (s : List ℕ) (at n : ℕ) → at + n ≤ length s → length (take n (drop at s)) ≡ n
 part-length s at n h = simp (length-take, length-drop) (omega arith)
 
