@@ -1,3 +1,4 @@
 pub mod Blocks
 pub mod Layout
 pub mod Form
+pub mod Counted

@@ -1,0 +1,49 @@
+-- `used_holds` meets its contract: it leaves at the first test that fails.
+-- Assumes nothing.
+use borrow.Author.Needs.{needs}
+use Rattle.laws.proofs.Ways.{ways, answer-failed, answer-held, under-failed, under-held, same-failed, same-held}
+use Rattle.values.specs.Values.{marked}
+use Rattle.layout.specs.Layout.{usedHolds}
+use Rattle.layout.proofs.rows.used_holds.Statement.{statement}
+use Rattle.layout.proofs.rows.used_holds.Tie as tie
+
+shared-slice-read-marks : tie.Need-shared-slice-read-marks
+shared-slice-read-marks c = search needs
+
+returns : tie.Need-returns
+unfolding usedHolds marked
+returns c = search ways
+
+absent-holds-requires : tie.Need-absent-holds-requires
+absent-holds-requires c κs = search needs
+
+returns-2 : tie.Need-returns-2
+unfolding usedHolds marked
+returns-2 c = search ways
+
+absent-holds-requires-2 : tie.Need-absent-holds-requires-2
+absent-holds-requires-2 c κs = search needs
+
+returns-3 : tie.Need-returns-3
+unfolding usedHolds marked
+returns-3 c = search ways
+
+is-blank-requires : tie.Need-is-blank-requires
+is-blank-requires c κs = search needs
+
+returns-4 : tie.Need-returns-4
+unfolding usedHolds marked
+returns-4 c = search ways
+
+pub used-holds-spec : {M : Type 1} → statement M
+used-holds-spec =
+    tie.close
+    (tie.spec
+    shared-slice-read-marks
+    returns
+    absent-holds-requires
+    returns-2
+    absent-holds-requires-2
+    returns-3
+    is-blank-requires
+    returns-4)

@@ -1,0 +1,89 @@
+// The first fault among refusals 1, 2 and 3: the length, the check of every block, the layout of every block. Each block is a
+// part of the book, lent to the test of it.
+use block::SIZE;
+use block::check::check_holds;
+use values::Verdict;
+use values::head::offers_in;
+use crate::head::head_holds;
+use crate::rows::{OFRS, rows_here, rows_hold};
+ghost use mathlib.Core.Path.{_≡_};
+ghost use Prim.Native.Nat.{_+_, _-_, _≤_};
+ghost use Rattle.values.specs.Refusals.{first};
+ghost use Rattle.layout.specs.Blocks.{blockCount};
+ghost use Rattle.layout.specs.Form.{lengthFault, checkFault, offerBlockFault, layoutFault, formFault};
+ghost use Rattle.layout.specs.Counted.{Counted};
+
+// The most bytes that a book has: block 0, and forty blocks for 600 offers.
+pub const LONGEST: usize = 20992;
+
+// 1: whole blocks, one at least, and no more bytes than the most.
+fn lengths(book: &[u8]) -> Verdict
+    ensures { λ r. ⌜ r ≡ lengthFault (now (book .entry)) ⌝ }
+{
+    let bytes = book.len();
+    if bytes % SIZE != 0 {
+        return Verdict::Refused(1, 0);
+    }
+    if bytes < SIZE {
+        return Verdict::Refused(1, 0);
+    }
+    if LONGEST < bytes {
+        return Verdict::Refused(1, 0);
+    }
+    Verdict::Passed
+}
+
+// 2: the check of every block, lowest first.
+fn checks(book: &[u8], blocks: usize) -> Verdict
+    requires { ⌜ (blocks ≡ blockCount (now book)) × (blocks ≤ 41) ⌝ }
+    ensures { λ r. ⌜ r ≡ checkFault (now (book .entry)) ⌝ }
+{
+    for k in 0..blocks {
+        let at = k * SIZE;
+        if !check_holds(&book[at..at + SIZE]) {
+            return Verdict::Refused(2, k as u32);
+        }
+    }
+    Verdict::Passed
+}
+
+// 3 at the offer blocks, lowest first.
+fn offer_blocks(book: &[u8], blocks: usize, offers: usize) -> Verdict
+    requires { ⌜ Counted (now book) blocks offers ⌝ }
+    ensures { λ r. ⌜ r ≡ first (λ j. offerBlockFault (now (book .entry)) (j + 1)) (blocks - 1) ⌝ }
+{
+    for j in 0..blocks - 1 {
+        let k = j + 1;
+        let at = k * SIZE;
+        if !rows_hold(&OFRS, &book[at..at + SIZE], k, rows_here(offers, k)) {
+            return Verdict::Refused(3, k as u32);
+        }
+    }
+    Verdict::Passed
+}
+
+// 3: the layout of block 0, then of the offer blocks.
+fn layouts(book: &[u8], blocks: usize) -> Verdict
+    requires { ⌜ (blocks ≡ blockCount (now book)) × (1 ≤ blocks) ⌝ }
+    ensures { λ r. ⌜ r ≡ layoutFault (now (book .entry)) ⌝ }
+{
+    let head = &book[0..SIZE];
+    if !head_holds(head, blocks) {
+        return Verdict::Refused(3, 0);
+    }
+    offer_blocks(book, blocks, offers_in(head) as usize)
+}
+
+// The first fault among 1, 2 and 3.
+pub fn form(book: &[u8]) -> Verdict
+    ensures { λ r. ⌜ r ≡ formFault (now (book .entry)) ⌝ }
+{
+    if let Verdict::Refused(number, place) = lengths(book) {
+        return Verdict::Refused(number, place);
+    }
+    let blocks = book.len() / SIZE;
+    if let Verdict::Refused(number, place) = checks(book, blocks) {
+        return Verdict::Refused(number, place);
+    }
+    layouts(book, blocks)
+}

@@ -1,0 +1,64 @@
+// The layout of block 0.
+use block::bytes::{u16_at, opens_with, is_blank};
+use values::head::offers_in;
+use crate::marks::absent_holds;
+ghost use mathlib.Core.Path.{_≡_};
+ghost use Prim.Native.Nat.{_≤_};
+ghost use lib.ListN.{length};
+ghost use Rattle.layout.specs.Layout.{countFits, headMarksHold, headHolds};
+
+// The four letters that open a book.
+pub const RPMB: [u8; 4] = *b"RPMB";
+
+// Whether the number of offers is at most 600 and fits the number of blocks.
+fn count_fits(s: &[u8], blocks: usize) -> bool
+    requires { ⌜ 512 ≤ length (now s) ⌝ }
+    ensures { λ r. ⌜ r ≡ countFits (now (s .entry)) blocks ⌝ }
+{
+    let offers = offers_in(s);
+    if 600 < offers {
+        return false;
+    }
+    blocks == 1 + (offers as usize + 14) / 15
+}
+
+// Whether the marks have no unused bit, and a value not given has zero bytes.
+fn head_marks_hold(s: &[u8]) -> bool
+    requires { ⌜ 512 ≤ length (now s) ⌝ }
+    ensures { λ r. ⌜ r ≡ headMarksHold (now (s .entry)) ⌝ }
+{
+    let marks = s[26];
+    if 16 <= marks {
+        return false;
+    }
+    if !absent_holds(s, 8, marks, 1) {
+        return false;
+    }
+    if !absent_holds(s, 12, marks, 2) {
+        return false;
+    }
+    if !absent_holds(s, 16, marks, 4) {
+        return false;
+    }
+    absent_holds(s, 20, marks, 8)
+}
+
+// Whether the part is laid out as block 0 of a book of so many blocks.
+pub fn head_holds(s: &[u8], blocks: usize) -> bool
+    requires { ⌜ 512 ≤ length (now s) ⌝ }
+    ensures { λ r. ⌜ r ≡ headHolds (now (s .entry)) blocks ⌝ }
+{
+    if !opens_with(s, &RPMB) {
+        return false;
+    }
+    if u16_at(s, 4) != 1 {
+        return false;
+    }
+    if !count_fits(s, blocks) {
+        return false;
+    }
+    if !head_marks_hold(s) {
+        return false;
+    }
+    is_blank(s, 27, 481)
+}

@@ -1,0 +1,87 @@
+// The layout of a block of rows.
+use block::bytes::{u16_at, opens_with, is_blank};
+use crate::marks::absent_holds;
+ghost use mathlib.Core.Path.{_≡_};
+ghost use mathlib.Core.Bool.{_&&_};
+ghost use Prim.Native.Nat.{ℕ, _+_, _-_, _*_, _≤_, _<_};
+ghost use lib.ListN.{length};
+ghost use lib.Dec.{ltb};
+ghost use Rattle.laws.specs.Sum.{every};
+ghost use Rattle.layout.specs.Blocks.{placeOf};
+ghost use Rattle.layout.specs.Layout.{usedHolds, placeHolds, rowsHere, rowsHold};
+
+// The four letters that open an offer block.
+pub const OFRS: [u8; 4] = *b"OFRS";
+
+// Whether a used place has no unused mark or byte that is set, and a value not given has zero bytes.
+fn used_holds(p: &[u8]) -> bool
+    requires { ⌜ 32 ≤ length (now p) ⌝ }
+    ensures { λ r. ⌜ r ≡ usedHolds (now (p .entry)) ⌝ }
+{
+    let marks = p[28];
+    if 4 <= marks {
+        return false;
+    }
+    if !absent_holds(p, 8, marks, 1) {
+        return false;
+    }
+    if !absent_holds(p, 16, marks, 2) {
+        return false;
+    }
+    is_blank(p, 29, 3)
+}
+
+// Whether a place of a block is laid out as a used one, or as one that is not.
+fn place_holds(used: bool, p: &[u8]) -> bool
+    requires { ⌜ 32 ≤ length (now p) ⌝ }
+    ensures { λ r. ⌜ r ≡ placeHolds used (now (p .entry)) ⌝ }
+{
+    if used {
+        used_holds(p)
+    } else {
+        is_blank(p, 0, 32)
+    }
+}
+
+// Whether all fifteen places of a block hold, of which the first are used. Each is a part of the block.
+fn places_hold(s: &[u8], here: usize) -> bool
+    requires { ⌜ 512 ≤ length (now s) ⌝ }
+    ensures { λ r. ⌜ r ≡ every (λ i. placeHolds (ltb i here) (placeOf (now (s .entry)) i)) 15 ⌝ }
+{
+    for i in 0..15 {
+        let at = 28 + i * 32;
+        if !place_holds(i < here, &s[at..at + 32]) {
+            return false;
+        }
+    }
+    true
+}
+
+// How many of so many rows stand in block k, from 1.
+pub fn rows_here(rows: usize, k: usize) -> usize
+    requires { ⌜ (0 < k) × ((k - 1) * 15 ≤ rows) ⌝ }
+    ensures { λ r. ⌜ r ≡ rowsHere rows k ⌝ }
+{
+    let left = rows - (k - 1) * 15;
+    if left < 15 { left } else { 15 }
+}
+
+// Whether the part is laid out as block number k, opened by these letters, with so many rows in it.
+pub fn rows_hold(letters: &[u8; 4], s: &[u8], k: usize, here: usize) -> bool
+    requires { ⌜ 512 ≤ length (now s) ⌝ }
+    ensures { λ r. ⌜ r ≡ rowsHold (now (letters .entry)) (now (s .entry)) k here ⌝ }
+{
+    if !opens_with(s, letters) {
+        return false;
+    }
+    if u16_at(s, 4) as usize != k {
+        return false;
+    }
+    if u16_at(s, 6) as usize != here {
+        return false;
+    }
+    if !is_blank(s, 8, 20) {
+        return false;
+    }
+    places_hold(s, here)
+}
