@@ -1,1 +1,2 @@
-// x
+// The limits that the outline sets: refusals 4 to 8, on values that are read already.
+pub mod parameters;
