@@ -1,2 +1,3 @@
 // The limits that the outline sets: refusals 4 to 8, on values that are read already.
 pub mod parameters;
+pub mod offers;

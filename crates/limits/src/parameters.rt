@@ -31,7 +31,7 @@ pub fn missing_in(s: &[u8]) -> Verdict
 pub fn within(least: u32, most: u32, number: u32) -> bool
     ensures { λ r. ⌜ r ≡ within least most number ⌝ }
 {
-    least <= number && number <= most
+    (least <= number) & (number <= most)
 }
 
 // Whether a value is missing, or given from a least to a most.

@@ -1,0 +1,54 @@
+-- Refusal 6: what is missing is no number.
+--
+-- In order: the test that the code makes of a price; a missing price, when clearing and for soundness; a given price, which
+-- may be 0; a missing parameter.
+-- Assumes nothing.
+use mathlib.Core.Path.{_≡_, refl, sym, ap, _∙_}
+use mathlib.Core.Bool.{Bool, true, false, cond, not, _&&_}
+use Prim.Native.Nat.{ℕ}
+use lib.Dec.{leb}
+use Rattle.values.specs.Refusals.{noPrice, offerOutOfRange, missingParameter, unless, andThen}
+use Rattle.values.specs.declared.Value.{Value}
+use Rattle.values.specs.declared.Value.the-variants.{Given, Missing}
+use Rattle.values.specs.declared.Verdict.{Verdict}
+use Rattle.values.specs.declared.Verdict.the-variants.{Passed}
+use Rattle.values.specs.declared.head.Parameters.{Parameters}
+use Rattle.values.specs.declared.place.Offer.{Offer}
+use Rattle.limits.specs.Parameters.{within, givenWithin, missingFault}
+use Rattle.limits.specs.Offers.{isGiven, priceFault, offerInRange, offerFault}
+
+priceFault-tested : (pricesNeeded : Bool) (price : Value) (row : ℕ)
+    → cond pricesNeeded (priceFault price row) Passed ≡ unless (not (pricesNeeded && not (isGiven price))) (noPrice row)
+priceFault-tested true (Given number) row = refl
+priceFault-tested true Missing row = refl
+priceFault-tested false price row = refl
+
+-- An offer is refused by one test of its price and one of its ranges.
+pub offerFault-tested : (pricesNeeded : Bool) (o : Offer) (row : ℕ)
+    → offerFault pricesNeeded o row
+    ≡ andThen (unless (not (pricesNeeded && not (isGiven (o .price)))) (noPrice row)) (unless (offerInRange o) (offerOutOfRange row))
+unfolding offerFault
+offerFault-tested pricesNeeded o row = rw priceFault-tested
+
+-- A missing price is refused when clearing, whatever the other values are: it is never read as 0.
+pub offerFault-missing : (o : Offer) (row : ℕ) → o .price ≡ Missing → offerFault true o row ≡ noPrice row
+offerFault-missing o row e = offerFault-tested true o row ∙ simp e
+
+-- Soundness does not ask for a price: one that is missing passes, and the other values decide.
+pub offerFault-sound : (o : Offer) (row : ℕ)
+    → o .price ≡ Missing
+    → offerFault false o row
+    ≡ unless (leb 1 (o .resource) && (leb 1 (o .seller) && (within 1 200000 (o .quantity) && givenWithin 1 (o .quantity) (o .block)))) (offerOutOfRange row)
+unfolding offerInRange
+offerFault-sound o row e = offerFault-tested false o row ∙ simp e
+
+-- A given price, 0 among them, is judged by its range alone.
+pub offerFault-given : (pricesNeeded : Bool) (o : Offer) (row number : ℕ)
+    → o .price ≡ Given number → offerFault pricesNeeded o row ≡ unless (offerInRange o) (offerOutOfRange row)
+offerFault-given true o row number e = offerFault-tested true o row ∙ simp e
+offerFault-given false o row number e = offerFault-tested false o row
+
+-- A missing cost is refused first, whatever the other parameters are.
+pub missingFault-cost : (p : Parameters) → p .cost ≡ Missing → missingFault p ≡ missingParameter 2
+unfolding missingFault
+missingFault-cost p e = simp e
