@@ -1,2 +1,4 @@
 pub mod Marks
 pub mod Prices
+pub mod Failing
+pub mod Fresh

@@ -1,2 +1,3 @@
 pub mod Parameters
+pub mod Repeats
 pub mod Offers

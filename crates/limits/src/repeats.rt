@@ -1,0 +1,24 @@
+// Refusal 8: a resource number that stands in an earlier row.
+ghost use mathlib.Core.Path.{_≡_};
+ghost use Prim.Native.Nat.{_≤_};
+ghost use lib.ListN.{length, getD};
+ghost use Rattle.limits.specs.Repeats.{firstRepeat};
+
+// The first of n rows whose resource number stands in an earlier row, and n where there is none.
+pub fn first_repeat(resources: &[u32], n: usize) -> usize
+    requires { ⌜ n ≤ length (now resources) ⌝ }
+    ensures { λ r. ⌜ (r ≡ firstRepeat (λ row. getD (now (resources .entry)) row 0) n) × (r ≤ n) ⌝ }
+{
+    let mut row = 0;
+    'rows: while row < n {
+        let mut earlier = 0;
+        while earlier < row {
+            if resources[earlier] == resources[row] {
+                break 'rows;
+            }
+            earlier += 1;
+        }
+        row += 1;
+    }
+    row
+}
