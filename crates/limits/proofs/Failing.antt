@@ -1,10 +1,10 @@
 -- Laws of `firstFailing`: the first of n places that fails a test.
 --
--- In order: none fails; a place that fails after places that pass; it is among the n, what stands before it passes, and it
--- fails where it is below n; tests that agree.
+-- In order: none fails; a place that fails after places that pass; one of the two is the case; it is at most n; one more
+-- place that passes; tests that agree.
 -- Assumes nothing.
-use mathlib.Core.Path.{_≡_, refl, sym, ap, _∙_}
-use mathlib.Core.Bool.{Bool, true, false, cond, _&&_, true≢false}
+use mathlib.Core.Path.{_≡_, refl, sym, ap₂, _∙_}
+use mathlib.Core.Bool.{Bool, true, false, cond, _&&_}
 use Prim.Native.Nat.{ℕ, zero, suc, _+_, _≤_, _<_}
 use native.Mathlib.Nat.{not-suc-le-zero}
 use native.Mathlib.Numerals.{add-one}
@@ -62,3 +62,19 @@ failing-le test n =
 -- one more place that passes, as the code counts
 pub every-more : (test : ℕ → Bool) (n : ℕ) → every test n ≡ true → test n ≡ true → every test (n + 1) ≡ true
 every-more test n e t = rw add-one (every-suc test n ∙ and-true (every test n) (test n) e t)
+
+-- tests that agree at each of the n places
+pub every-ext : (test other : ℕ → Bool) (n : ℕ) → ((i : ℕ) → i < n → test i ≡ other i) → every test n ≡ every other n
+every-ext test other zero h = every-zero test ∙ sym (every-zero other)
+every-ext test other (suc n) h =
+    every-suc test n
+    ∙ ap₂ _&&_ (every-ext test other n (λ i l. h i (omega arith))) (h n (omega arith))
+    ∙ sym (every-suc other n)
+
+pub failing-ext : (test other : ℕ → Bool) (n : ℕ)
+    → ((i : ℕ) → i < n → test i ≡ other i) → firstFailing test n ≡ firstFailing other n
+failing-ext test other n h =
+    by-failing test n
+    (λ e. failing-none test n e ∙ sym (failing-none other n (sym (every-ext test other n h) ∙ e)))
+    (λ i l e t. failing-at test n i l e t
+      ∙ sym (failing-at other n i l (sym (every-ext test other i (λ k m. h k (omega arith))) ∙ e) (sym (h i l) ∙ t)))

@@ -1,34 +1,18 @@
 -- Refusal 6: what is missing is no number.
 --
--- In order: the test that the code makes of a price; a missing price, when clearing and for soundness; a given price, which
--- may be 0; a missing parameter.
+-- In order: a missing price, when clearing and for soundness; a given price, which may be 0; a missing parameter.
 -- Assumes nothing.
-use mathlib.Core.Path.{_≡_, refl, sym, ap, _∙_}
-use mathlib.Core.Bool.{Bool, true, false, cond, not, _&&_}
+use mathlib.Core.Path.{_≡_, _∙_}
+use mathlib.Core.Bool.{Bool, true, false, _&&_}
 use Prim.Native.Nat.{ℕ}
 use lib.Dec.{leb}
-use Rattle.values.specs.Refusals.{noPrice, offerOutOfRange, missingParameter, unless, andThen}
-use Rattle.values.specs.declared.Value.{Value}
+use Rattle.values.specs.Refusals.{noPrice, offerOutOfRange, missingParameter, unless}
 use Rattle.values.specs.declared.Value.the-variants.{Given, Missing}
-use Rattle.values.specs.declared.Verdict.{Verdict}
-use Rattle.values.specs.declared.Verdict.the-variants.{Passed}
 use Rattle.values.specs.declared.head.Parameters.{Parameters}
 use Rattle.values.specs.declared.place.Offer.{Offer}
 use Rattle.limits.specs.Parameters.{within, givenWithin, missingFault}
-use Rattle.limits.specs.Offers.{isGiven, priceFault, offerInRange, offerFault}
-
-priceFault-tested : (pricesNeeded : Bool) (price : Value) (row : ℕ)
-    → cond pricesNeeded (priceFault price row) Passed ≡ unless (not (pricesNeeded && not (isGiven price))) (noPrice row)
-priceFault-tested true (Given number) row = refl
-priceFault-tested true Missing row = refl
-priceFault-tested false price row = refl
-
--- An offer is refused by one test of its price and one of its ranges.
-pub offerFault-tested : (pricesNeeded : Bool) (o : Offer) (row : ℕ)
-    → offerFault pricesNeeded o row
-    ≡ andThen (unless (not (pricesNeeded && not (isGiven (o .price)))) (noPrice row)) (unless (offerInRange o) (offerOutOfRange row))
-unfolding offerFault
-offerFault-tested pricesNeeded o row = rw priceFault-tested
+use Rattle.limits.specs.Offers.{offerInRange, offerFault}
+use Rattle.limits.proofs.Tested.{offerFault-tested}
 
 -- A missing price is refused when clearing, whatever the other values are: it is never read as 0.
 pub offerFault-missing : (o : Offer) (row : ℕ) → o .price ≡ Missing → offerFault true o row ≡ noPrice row

@@ -2,7 +2,7 @@
 -- Assumes nothing.
 use mathlib.Core.Path.{sym, _∙_}
 use borrow.Author.Needs.{needs}
-use Rattle.limits.proofs.Prices.{offerFault-tested}
+use Rattle.limits.proofs.Tested.{offerFault-tested}
 use Rattle.limits.proofs.offers.offer_fault.Statement.{statement}
 use Rattle.limits.proofs.offers.offer_fault.Tie as tie
 
