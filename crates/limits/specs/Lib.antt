@@ -1,2 +1,4 @@
 pub mod Parameters
+pub mod Repeats
 pub mod Offers
+pub mod Rows

@@ -3,9 +3,8 @@
 -- The offers of a book are a function of the row. Clearing needs every price; soundness does not.
 -- Assumes nothing.
 use Prim.Native.Nat.{ℕ}
-use mathlib.Core.Bool.{Bool, cond, not, _&&_}
-use lib.Dec.{leb, eqb}
-use Rattle.laws.specs.Sum.{every}
+use mathlib.Core.Bool.{Bool, true, false, cond, _&&_}
+use lib.Dec.{leb}
 use Rattle.values.specs.Refusals.{noPrice, offerOutOfRange, repeatedResource, unless, andThen, first}
 use Rattle.values.specs.declared.Value.{Value}
 use Rattle.values.specs.declared.Value.the-variants.{Given, Missing}
@@ -13,6 +12,12 @@ use Rattle.values.specs.declared.Verdict.{Verdict}
 use Rattle.values.specs.declared.Verdict.the-variants.{Passed}
 use Rattle.values.specs.declared.place.Offer.{Offer}
 use Rattle.limits.specs.Parameters.{within, givenWithin}
+use Rattle.limits.specs.Repeats.{fresh}
+
+-- a value that is given
+abbrev pub isGiven : Value → Bool
+isGiven (Given number) = true
+isGiven Missing = false
 
 -- 6: the row's price is missing
 abbrev pub priceFault : Value → ℕ → Verdict
@@ -35,7 +40,7 @@ offerFault pricesNeeded o row =
 
 -- 8: the row's resource number stands in an earlier row
 unfoldable pub repeatFault : (ℕ → ℕ) → ℕ → Verdict
-repeatFault resources row = unless (every (λ earlier. not (eqb (resources earlier) (resources row))) row) (repeatedResource row)
+repeatFault resources row = unless (fresh resources row) (repeatedResource row)
 
 -- rows from 0, each tested for 6, 7, 8
 unfoldable pub rowsFault : Bool → (ℕ → Offer) → ℕ → Verdict

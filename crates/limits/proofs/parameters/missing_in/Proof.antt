@@ -1,0 +1,19 @@
+-- `missing_in` reads the marks of block 0.
+-- Assumes nothing.
+use mathlib.Core.Path.{_∙_}
+use Rattle.limits.proofs.Marks.{marks-missing}
+use borrow.Author.Needs.{needs}
+use Rattle.limits.proofs.parameters.missing_in.Statement.{statement}
+use Rattle.limits.proofs.parameters.missing_in.Tie as tie
+
+shared-slice-read-missing : tie.Need-shared-slice-read-missing
+shared-slice-read-missing c = search needs
+
+missing-requires : tie.Need-missing-requires
+missing-requires c κs = search needs
+
+returns : tie.Need-returns
+returns c = c .missing .ensures ∙ marks-missing _
+
+pub missing-in-spec : {M : Type 1} → statement M
+missing-in-spec = tie.close (tie.spec shared-slice-read-missing missing-requires returns)

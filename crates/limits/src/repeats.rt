@@ -1,0 +1,50 @@
+// Refusal 8: a resource number that stands in an earlier row.
+use values::Verdict;
+ghost use mathlib.Core.Path.{_≡_};
+ghost use Prim.Native.Nat.{_≤_};
+ghost use lib.ListN.{length, getD};
+ghost use Rattle.limits.specs.Repeats.{firstRepeat};
+ghost use Rattle.limits.specs.Rows.{rowsBefore, withRepeats};
+
+// The first of n rows whose resource number stands in an earlier row, and n where there is none.
+pub fn first_repeat(resources: &[u32], n: usize) -> usize
+    requires { ⌜ n ≤ length (now resources) ⌝ }
+    ensures { λ r. ⌜ (r ≡ firstRepeat (λ row. getD (now (resources .entry)) row 0) n) × (r ≤ n) ⌝ }
+{
+    let mut row = 0;
+    'rows: while row < n {
+        let mut earlier = 0;
+        while earlier < row {
+            if resources[earlier] == resources[row] {
+                break 'rows;
+            }
+            earlier += 1;
+        }
+        row += 1;
+    }
+    row
+}
+
+// How many rows stand before the one that is refused: all n where none is.
+fn rows_before(values: Verdict, n: u32) -> u32
+    ensures { λ r. ⌜ r ≡ rowsBefore values n ⌝ }
+{
+    match values {
+        Verdict::Passed => n,
+        Verdict::Refused(_, row) => row,
+    }
+}
+
+// The first fault of n rows, of which `values` is the first by 6 or 7: a repeat before that row comes first.
+pub fn with_repeats(values: Verdict, resources: &[u32], n: u32) -> Verdict
+    requires { ⌜ rowsBefore values n ≤ length (now resources) ⌝ }
+    ensures { λ r. ⌜ r ≡ withRepeats values (λ row. getD (now (resources .entry)) row 0) n ⌝ }
+{
+    let limit = rows_before(values, n) as usize;
+    let repeat = first_repeat(resources, limit);
+    if repeat < limit {
+        Verdict::Refused(8, repeat as u32)
+    } else {
+        values
+    }
+}
