@@ -19,3 +19,4 @@ pub mod Nearests
 pub mod Pieces
 pub mod Products
 pub mod Fills
+pub mod Ways
