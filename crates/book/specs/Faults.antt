@@ -4,23 +4,11 @@ use Prim.Native.Nat.{ℕ}
 use mathlib.Core.Bool.{Bool, true, false}
 use mathlib.Core.List.{List}
 use Rattle.values.specs.Refusals.{andThen}
-use Rattle.values.specs.Head.{parametersOf}
-use Rattle.values.specs.Place.{offerOf}
 use Rattle.values.specs.declared.Verdict.{Verdict}
-use Rattle.values.specs.declared.head.Parameters.{Parameters}
-use Rattle.values.specs.declared.place.Offer.{Offer}
-use Rattle.layout.specs.Blocks.{blockOf, rowOf}
+use Rattle.layout.specs.Read.{bookParameters, bookOffer}
 use Rattle.layout.specs.Form.{formFault, offerCount}
 use Rattle.limits.specs.Parameters.{missingFault, rangeFault}
 use Rattle.limits.specs.Offers.{rowsFault}
-
--- the parameters of a book
-unfoldable pub bookParameters : List ℕ → Parameters
-bookParameters b = parametersOf (blockOf b 0)
-
--- the offer of a row of a book
-unfoldable pub bookOffer : List ℕ → ℕ → Offer
-bookOffer b row = offerOf (rowOf b row)
 
 -- THE TABLE. The first fault of a book that is to be cleared: 1; 2 over all blocks; 3 likewise; 4; 5 by field; rows from 0,
 -- each for 6, 7, 8.

@@ -2,3 +2,4 @@ pub mod Blocks
 pub mod Layout
 pub mod Form
 pub mod Counted
+pub mod Read

@@ -12,7 +12,8 @@ use Rattle.values.specs.declared.Verdict.the-variants.{Passed, Refused}
 use Rattle.values.specs.declared.head.Parameters.{Parameters}
 use Rattle.market.specs.Price.{asPrice}
 use Rattle.layout.specs.Form.{offerCount}
-use Rattle.book.specs.Faults.{firstFault, bookParameters}
+use Rattle.layout.specs.Read.{bookParameters}
+use Rattle.book.specs.Faults.{firstFault}
 use Rattle.ozpinduru.specs.Auction.{total, price, rowCleared, rowCommitted, allMakeWhole, dailyTotal, yearTotal}
 use Rattle.ozpinduru.specs.declared.Clearing.{Clearing}
 use Rattle.ozpinduru.specs.declared.Answer.{Answer}

@@ -19,7 +19,7 @@ use Rattle.values.specs.Values.{held}
 use Rattle.values.specs.declared.head.Parameters.{Parameters}
 use Rattle.settle.specs.Read.{optional}
 use Rattle.layout.specs.Form.{offerCount}
-use Rattle.book.specs.Faults.{bookParameters, bookOffer}
+use Rattle.layout.specs.Read.{bookOffer}
 
 -- the terms that parameters with every value given state
 abbrev pub termsOf : Parameters → Terms

@@ -1,0 +1,23 @@
+-- What a book reads as: its parameters and the offers of its rows.
+-- Assumes nothing.
+use Prim.Native.Nat.{ℕ, _+_, _*_, _/_, _≤_, _<_}
+use mathlib.Core.List.{List}
+use lib.ListN.{length}
+use Rattle.values.specs.Head.{parametersOf}
+use Rattle.values.specs.Place.{offerOf}
+use Rattle.values.specs.declared.head.Parameters.{Parameters}
+use Rattle.values.specs.declared.place.Offer.{Offer}
+use Rattle.layout.specs.Blocks.{blockOf, rowOf}
+
+-- the parameters of a book
+unfoldable pub bookParameters : List ℕ → Parameters
+bookParameters b = parametersOf (blockOf b 0)
+
+-- the offer of a row of a book
+unfoldable pub bookOffer : List ℕ → ℕ → Offer
+bookOffer b row = offerOf (rowOf b row)
+
+-- there are at most 600 rows, and the block of each lies within the book
+pub record Inside (b : List ℕ) (n : ℕ) : Type 0 where
+  pub few : n ≤ 600
+  pub within : (row : ℕ) → row < n → (1 + row / 15) * 512 + 512 ≤ length b
