@@ -1,1 +1,2 @@
 pub mod Contest
+pub mod Sieve
