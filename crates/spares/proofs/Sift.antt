@@ -54,7 +54,7 @@ module _ (contends : ℕ → Bool) (key : ℕ → ℕ) (rest : ℕ → ℕ → B
 
   -- under a limit fewer stand before a contender than contend there: it is one of them itself
   rank-under : (limit i : ℕ) → i < n → contends i ≡ true → rest i i ≡ false → key i < limit
-      → rank i < countUnder contends key n limit
+      → rank i < countUnder contends key limit n
   unfolding countUnder
   rank-under limit i l c r k =
       countWhere-less _ _ n i
@@ -64,7 +64,7 @@ module _ (contends : ℕ → Bool) (key : ℕ → ℕ) (rest : ℕ → ℕ → B
       (rw (c, lt-ltb (key i) limit k))
 
   -- over a limit all who contend at it or under it stand before
-  rank-over : (limit i : ℕ) → limit < key i → countUnder contends key n (suc limit) ≤ rank i
+  rank-over : (limit i : ℕ) → limit < key i → countUnder contends key (suc limit) n ≤ rank i
   unfolding countUnder
   rank-over limit i k =
       countWhere-mono _ _ n
@@ -76,7 +76,7 @@ module _ (contends : ℕ → Bool) (key : ℕ → ℕ) (rest : ℕ → ℕ → B
       rw (and-left (contends j) (ltb (key j) k) t, ne-eqb (key j) k (omega arith))
 
   -- before a contender stand those that have a lower key, and of those that have its key who comes first in the rest
-  rank-level : (i : ℕ) → rank i ≡ countUnder contends key n (key i) + rankAmong (level contends key (key i)) rest n i
+  rank-level : (i : ℕ) → rank i ≡ countUnder contends key (key i) n + rankAmong (level contends key (key i)) rest n i
   unfolding countUnder countWhere
   rank-level i =
       sumWhere-same _ _ _ n (λ j l. and-either (contends j) _ _ (rest j i))
@@ -84,7 +84,7 @@ module _ (contends : ℕ → Bool) (key : ℕ → ℕ) (rest : ℕ → ℕ → B
 
   -- what is left of the spare tenths once who contends under a limit has won
   abbrev left : ℕ → ℕ → ℕ
-  left spare limit = spare - countUnder contends key n limit
+  left spare limit = spare - countUnder contends key limit n
 
   -- who contends under the limit wins; who contends at it goes on, by the rest of the order, for what is left
   abbrev Told : ℕ → ℕ → ℕ → Type 0
@@ -110,7 +110,7 @@ module _ (contends : ℕ → Bool) (key : ℕ → ℕ) (rest : ℕ → ℕ → B
   unfolding wins
   told-level spare limit i parts c e =
       rw (← e, c, le-ltb (key i) (key i) (omega arith), eq-eqb (key i) (key i) refl, rank-level i)
-      (ltb-part (countUnder contends key n (key i)) _ spare (rw (← e) at (parts .enough)))
+      (ltb-part (countUnder contends key (key i) n) _ spare (rw (← e) at (parts .enough)))
 
   pub sift-step : (spare limit i : ℕ) → Parts contends key n spare limit → i < n → rest i i ≡ false → Told spare limit i
   unfolding wins

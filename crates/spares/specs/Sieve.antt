@@ -6,21 +6,31 @@ use Prim.Native.Nat.{ℕ, suc, _≤_, _<_}
 use mathlib.Core.Path.{_≡_}
 use mathlib.Core.Bool.{Bool, true, false, cond, _&&_, _||_}
 use mathlib.Core.List.{List}
-use lib.ListN.{getD}
+use lib.ListN.{length, getD}
 use lib.Dec.{ltb, eqb}
 use Rattle.laws.specs.Sum.{countWhere}
 use Rattle.spares.specs.Contest.{wins, contenders}
 
+-- a list of keys, as a function of the row
+abbrev pub keyOf : List ℕ → ℕ → ℕ
+keyOf keys i = getD keys i 0
+
+-- each of the n rows has a key and a standing, and there are no more rows than a book has
+pub record Rows (keys standings : List ℕ) (n : ℕ) : Type 0 where
+  pub keyed : n ≤ length keys
+  pub standing : n ≤ length standings
+  pub few : n ≤ 600
+
 -- how many of the n rows that contend have a key under the limit
 unfoldable pub countUnder : (ℕ → Bool) → (ℕ → ℕ) → ℕ → ℕ → ℕ
-countUnder contends key n limit = countWhere (λ i. contends i && ltb (key i) limit) n
+countUnder contends key limit n = countWhere (λ i. contends i && ltb (key i) limit) n
 
 -- a key such that who contends under it wins, and who contends over it does not
 pub record Parts (contends : ℕ → Bool) (key : ℕ → ℕ) (n spare limit : ℕ) : Type 0 where
   -- at most `spare` contenders have a lower key
-  pub enough : countUnder contends key n limit ≤ spare
+  pub enough : countUnder contends key limit n ≤ spare
   -- where a contender has a higher key, at least `spare` others have this one or a lower
-  pub taken : (i : ℕ) → i < n → contends i ≡ true → limit < key i → spare ≤ countUnder contends key n (suc limit)
+  pub taken : (i : ℕ) → i < n → contends i ≡ true → limit < key i → spare ≤ countUnder contends key (suc limit) n
 
 -- the rows that have won, as a list of standings says
 abbrev pub winners : List ℕ → ℕ → Bool

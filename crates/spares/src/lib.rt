@@ -1,1 +1,37 @@
-// x
+// Who gets the spare tenths: rows contend by one key after another, the lowest first.
+//
+// No sort: for each key a limit is found by halves, such that who contends under it wins and who contends at it goes on to
+// the next key. A row stands at 0 where it is out, at 1 where it contends and at 2 where it has won.
+ghost use mathlib.Core.Path.{_≡_};
+ghost use mathlib.Core.Bool.{cond, true, _&&_};
+ghost use Prim.Native.Nat.{ℕ, _≤_, _<_};
+ghost use lib.ListN.{length, getD};
+ghost use lib.Dec.{ltb, eqb};
+ghost use Rattle.spares.specs.Contest.{contenders};
+ghost use Rattle.spares.specs.Sieve.{countUnder, Parts, Rows, keyOf};
+
+// A contender with a key under the limit counts as one.
+fn counted(standing: u32, key: u32, limit: u32) -> u32
+    ensures { λ r. ⌜ (r ≡ cond (eqb standing 1 && ltb key limit) 1 0) × (r ≤ 1) ⌝ }
+{
+    if standing == 1 {
+        if key < limit {
+            return 1;
+        }
+    }
+    0
+}
+
+// How many of the first n rows contend with a key under the limit.
+fn under(keys: &[u32], standings: &[u32], n: usize, limit: u32) -> u32
+    requires { ⌜ Rows (now keys) (now standings) n ⌝ }
+    ensures { λ r. ⌜ r ≡ countUnder (contenders (now (standings .entry))) (keyOf (now (keys .entry))) limit n ⌝ }
+{
+    let mut count: u32 = 0;
+    let mut i: usize = 0;
+    while i < n {
+        count += counted(standings[i], keys[i], limit);
+        i += 1;
+    }
+    count
+}
