@@ -1,1 +1,3 @@
+pub mod Tests
 pub mod Sift
+pub mod Parting

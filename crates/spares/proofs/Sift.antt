@@ -17,22 +17,7 @@ use Rattle.laws.proofs.Ranks.{rankAmong}
 use Rattle.laws.proofs.Where.{sumWhere-either, sumWhere-same}
 use Rattle.spares.specs.Contest.{wins}
 use Rattle.spares.specs.Sieve.{countUnder, Parts}
-
--- tests beside one that both have
-and-implies : (w s t : Bool) → (s ≡ true → t ≡ true) → w && s ≡ true → w && t ≡ true
-and-implies true s t h e = h e
-and-implies false s t h e = e
-
-and-either : (w s t r : Bool) → w && (s || (t && r)) ≡ (w && s) || ((w && t) && r)
-and-either true s t r = refl
-and-either false s t r = refl
-
--- a part taken off both sides
-ltb-part : (a b c : ℕ) → a ≤ c → ltb (a + b) c ≡ ltb b (c - a)
-ltb-part a b c h =
-    by-order c (a + b)
-    (λ l. le-ltb (a + b) c l ∙ sym (le-ltb b (c - a) (omega arith)))
-    (λ l. lt-ltb (a + b) c l ∙ sym (lt-ltb b (c - a) (omega arith)))
+use Rattle.spares.proofs.Tests.{and-implies, and-either, ltb-part}
 
 -- who contends and has the key `limit`
 abbrev pub level : (ℕ → Bool) → (ℕ → ℕ) → ℕ → ℕ → Bool
@@ -58,7 +43,7 @@ module _ (contends : ℕ → Bool) (key : ℕ → ℕ) (rest : ℕ → ℕ → B
   unfolding countUnder
   rank-under limit i l c r k =
       countWhere-less _ _ n i
-      (λ j m. and-implies (contends j) _ _ (λ b. lt-ltb (key j) limit (omega (arith, before-most j i b))))
+      (λ j m. and-implies (contends j) (λ b. lt-ltb (key j) limit (omega (arith, before-most j i b))))
       l
       (rw (c, le-ltb (key i) (key i) (omega arith), eq-eqb (key i) (key i) refl, r))
       (rw (c, lt-ltb (key i) limit k))
@@ -68,7 +53,7 @@ module _ (contends : ℕ → Bool) (key : ℕ → ℕ) (rest : ℕ → ℕ → B
   unfolding countUnder
   rank-over limit i k =
       countWhere-mono _ _ n
-      (λ j l. and-implies (contends j) _ _ (λ t. thenBy-lower key rest j i (omega (arith, ltb-true (key j) (suc limit) t))))
+      (λ j l. and-implies (contends j) (λ t. thenBy-lower key rest j i (omega (arith, ltb-true (key j) (suc limit) t))))
 
   apart : (j i k : ℕ) → contends j && ltb (key j) k ≡ true → level contends key k j && rest j i ≡ false
   apart j i k t =

@@ -8,7 +8,7 @@ ghost use Prim.Native.Nat.{ℕ, _≤_, _<_};
 ghost use lib.ListN.{length, getD};
 ghost use lib.Dec.{ltb, eqb};
 ghost use Rattle.spares.specs.Contest.{contenders};
-ghost use Rattle.spares.specs.Sieve.{countUnder, Parts, Rows, keyOf};
+ghost use Rattle.spares.specs.Sieve.{AtMost, Parts, Rows, countUnder, keyOf};
 
 // A contender with a key under the limit counts as one.
 fn counted(standing: u32, key: u32, limit: u32) -> u32
@@ -34,4 +34,55 @@ fn under(keys: &[u32], standings: &[u32], n: usize, limit: u32) -> u32
         i += 1;
     }
     count
+}
+
+// The higher of a number and a contender's key.
+fn raised(high: u32, standing: u32, key: u32) -> u32
+    ensures { λ r. ⌜ (high ≤ r) × (standing ≡ 1 → key ≤ r) ⌝ }
+{
+    if standing == 1 {
+        if high < key {
+            return key;
+        }
+    }
+    high
+}
+
+// A number that no contender's key passes.
+fn highest(keys: &[u32], standings: &[u32], n: usize) -> u32
+    requires { ⌜ Rows (now keys) (now standings) n ⌝ }
+    ensures { λ r. ⌜ AtMost (contenders (now (standings .entry))) (keyOf (now (keys .entry))) n r ⌝ }
+{
+    let mut high: u32 = 0;
+    let mut i: usize = 0;
+    while i < n {
+        high = raised(high, standings[i], keys[i]);
+        i += 1;
+    }
+    high
+}
+
+// A key such that who contends under it wins and who contends over it does not.
+fn threshold(keys: &[u32], standings: &[u32], n: usize, spare: u32) -> u32
+    requires { ⌜ Rows (now keys) (now standings) n ⌝ }
+    ensures { λ r. ⌜ Parts (contenders (now (standings .entry))) (keyOf (now (keys .entry))) n spare r ⌝ }
+{
+    let mut high = highest(keys, standings, n);
+    if under(keys, standings, n, high) <= spare {
+        return high;
+    }
+    let mut low: u32 = 0;
+    while low + 1 < high {
+        let mid = low + (high - low) / 2;
+        let count = under(keys, standings, n, mid);
+        if count == spare {
+            return mid;
+        }
+        if count < spare {
+            low = mid;
+        } else {
+            high = mid;
+        }
+    }
+    low
 }

@@ -1,0 +1,41 @@
+-- Keys that part the contenders, as a search by halves meets them.
+--
+-- In order: how many contend under 0 and under a higher limit; the highest key, where at most `spare` contend under it; a key
+-- under which exactly `spare` contend; a key under which at most `spare` contend, while more do under the next.
+-- Assumes nothing.
+use mathlib.Core.Path.{_≡_}
+use mathlib.Core.Bool.{Bool, _&&_}
+use Prim.Native.Nat.{ℕ, suc, _≤_, _<_}
+use native.Mathlib.Omega.{arith}
+use lib.Dec.{ltb}
+use borrow.Author.Tests.{ltb-true, lt-ltb, le-ltb}
+use Rattle.laws.specs.Sum.{countWhere}
+use Rattle.laws.proofs.Cases.{and-left, and-right, and-true}
+use Rattle.laws.proofs.Counts.{countWhere-mono}
+use Rattle.laws.proofs.Where.{sumWhere-none}
+use Rattle.spares.specs.Sieve.{AtMost, Parts, countUnder}
+use Rattle.spares.proofs.Tests.{and-false, and-implies}
+
+module _ (contends : ℕ → Bool) (key : ℕ → ℕ) (n : ℕ) where
+  -- no key is under 0
+  pub under-zero : countUnder contends key 0 n ≡ 0
+  unfolding countUnder countWhere
+  under-zero = sumWhere-none _ _ n (λ i l. and-false (contends i) (le-ltb (key i) 0 (omega arith)))
+
+  -- who is under a limit is under the next
+  under-next : (limit : ℕ) → countUnder contends key limit n ≤ countUnder contends key (suc limit) n
+  unfolding countUnder
+  under-next limit =
+      countWhere-mono _ _ n
+      (λ i l. and-implies (contends i) (λ t. lt-ltb (key i) (suc limit) (omega (arith, ltb-true (key i) limit t))))
+
+  module _ (spare limit : ℕ) where
+    pub parts-top : AtMost contends key n limit → countUnder contends key limit n ≤ spare → Parts contends key n spare limit
+    parts-top top h = record { enough = h; taken = λ i l c k. absurd (omega (arith, top i l c)) }
+
+    pub parts-exact : countUnder contends key limit n ≡ spare → Parts contends key n spare limit
+    parts-exact e = record { enough = omega arith; taken = λ i l c k. omega (arith, under-next limit) }
+
+    pub parts-next : countUnder contends key limit n ≤ spare → spare < countUnder contends key (suc limit) n
+        → Parts contends key n spare limit
+    parts-next h g = record { enough = h; taken = λ i l c k. omega arith }
