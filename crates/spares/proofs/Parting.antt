@@ -22,20 +22,20 @@ module _ (contends : ℕ → Bool) (key : ℕ → ℕ) (n : ℕ) where
   unfolding countUnder countWhere
   under-zero = sumWhere-none _ _ n (λ i l. and-false (contends i) (le-ltb (key i) 0 (omega arith)))
 
-  -- who is under a limit is under the next
-  under-next : (limit : ℕ) → countUnder contends key limit n ≤ countUnder contends key (suc limit) n
+  -- under a higher limit stand no fewer
+  under-mono : (low high : ℕ) → low ≤ high → countUnder contends key low n ≤ countUnder contends key high n
   unfolding countUnder
-  under-next limit =
+  under-mono low high h =
       countWhere-mono _ _ n
-      (λ i l. and-implies (contends i) (λ t. lt-ltb (key i) (suc limit) (omega (arith, ltb-true (key i) limit t))))
+      (λ i l. and-implies (contends i) (λ t. lt-ltb (key i) high (omega (arith, ltb-true (key i) low t))))
 
   module _ (spare limit : ℕ) where
     pub parts-top : AtMost contends key n limit → countUnder contends key limit n ≤ spare → Parts contends key n spare limit
     parts-top top h = record { enough = h; taken = λ i l c k. absurd (omega (arith, top i l c)) }
 
     pub parts-exact : countUnder contends key limit n ≡ spare → Parts contends key n spare limit
-    parts-exact e = record { enough = omega arith; taken = λ i l c k. omega (arith, under-next limit) }
+    parts-exact e = record { enough = omega arith; taken = λ i l c k. omega (arith, under-mono limit (suc limit) (omega arith)) }
 
-    pub parts-next : countUnder contends key limit n ≤ spare → spare < countUnder contends key (suc limit) n
-        → Parts contends key n spare limit
-    parts-next h g = record { enough = h; taken = λ i l c k. omega arith }
+    pub parts-next : (high : ℕ) → high ≤ suc limit
+        → countUnder contends key limit n ≤ spare → spare < countUnder contends key high n → Parts contends key n spare limit
+    parts-next high l h g = record { enough = h; taken = λ i m c k. omega (arith, under-mono high (suc limit) l) }

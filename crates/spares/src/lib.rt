@@ -72,8 +72,8 @@ fn threshold(keys: &[u32], standings: &[u32], n: usize, spare: u32) -> u32
         return high;
     }
     let mut low: u32 = 0;
-    while low + 1 < high {
-        let mid = low + (high - low) / 2;
+    while 1 < high - low {
+        let mid = high - (high - low) / 2;
         let count = under(keys, standings, n, mid);
         if count == spare {
             return mid;
