@@ -1,3 +1,4 @@
 pub mod Tests
 pub mod Sift
 pub mod Parting
+pub mod Rewriting

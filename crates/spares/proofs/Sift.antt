@@ -72,32 +72,32 @@ module _ (contends : ℕ → Bool) (key : ℕ → ℕ) (rest : ℕ → ℕ → B
   left spare limit = spare - countUnder contends key limit n
 
   -- who contends under the limit wins; who contends at it goes on, by the rest of the order, for what is left
-  abbrev Told : ℕ → ℕ → ℕ → Type 0
-  Told spare limit i =
+  abbrev Step : ℕ → ℕ → ℕ → Type 0
+  Step spare limit i =
       wins contends before n spare i
       ≡ (contends i && ltb (key i) limit) || wins (level contends key limit) rest n (left spare limit) i
 
   told-under : (spare limit i : ℕ) → Parts contends key n spare limit → i < n
-      → contends i ≡ true → rest i i ≡ false → key i < limit → Told spare limit i
+      → contends i ≡ true → rest i i ≡ false → key i < limit → Step spare limit i
   unfolding wins
   told-under spare limit i parts l c r k =
       rw (c, lt-ltb (key i) limit k, lt-ltb (rank i) spare (omega (arith, parts .enough, rank-under limit i l c r k)))
 
   told-over : (spare limit i : ℕ) → Parts contends key n spare limit → i < n
-      → contends i ≡ true → limit < key i → Told spare limit i
+      → contends i ≡ true → limit < key i → Step spare limit i
   unfolding wins
   told-over spare limit i parts l c k =
       let none = le-ltb (rank i) spare (omega (arith, parts .taken i l c k, rank-over limit i k)) in
       rw (none, c, le-ltb (key i) limit (omega arith), ne-eqb (key i) limit (omega arith))
 
   told-level : (spare limit i : ℕ) → Parts contends key n spare limit
-      → contends i ≡ true → key i ≡ limit → Told spare limit i
+      → contends i ≡ true → key i ≡ limit → Step spare limit i
   unfolding wins
   told-level spare limit i parts c e =
       rw (← e, c, le-ltb (key i) (key i) (omega arith), eq-eqb (key i) (key i) refl, rank-level i)
       (ltb-part (countUnder contends key (key i) n) _ spare (rw (← e) at (parts .enough)))
 
-  pub sift-step : (spare limit i : ℕ) → Parts contends key n spare limit → i < n → rest i i ≡ false → Told spare limit i
+  pub sift-step : (spare limit i : ℕ) → Parts contends key n spare limit → i < n → rest i i ≡ false → Step spare limit i
   unfolding wins
   sift-step spare limit i parts l r =
       by-test (contends i)

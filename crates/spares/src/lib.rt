@@ -8,7 +8,8 @@ ghost use Prim.Native.Nat.{ℕ, _≤_, _<_};
 ghost use lib.ListN.{length, getD};
 ghost use lib.Dec.{ltb, eqb};
 ghost use Rattle.spares.specs.Contest.{contenders};
-ghost use Rattle.spares.specs.Sieve.{AtMost, Parts, Rows, countUnder, keyOf};
+ghost use Rattle.spares.specs.Sieve.{AtMost, Parts, Rows, countUnder, keyOf, held, stands};
+ghost use Rattle.spares.specs.Award.{Rewritten};
 
 // A contender with a key under the limit counts as one.
 fn counted(standing: u32, key: u32, limit: u32) -> u32
@@ -85,4 +86,32 @@ fn threshold(keys: &[u32], standings: &[u32], n: usize, spare: u32) -> u32
         }
     }
     low
+}
+
+// Where a row stands after its key is held to the limit: a contender has won under it, contends at it, and is out over it.
+fn sifted(standing: u32, key: u32, limit: u32) -> u32
+    ensures { λ r. ⌜ r ≡ stands standing key limit ⌝ }
+{
+    if standing == 1 {
+        if key < limit {
+            return 2;
+        }
+        if key == limit {
+            return 1;
+        }
+        return 0;
+    }
+    standing
+}
+
+// Holds each row's key to the limit.
+fn hold(keys: &[u32], standings: &mut [u32], n: usize, limit: u32)
+    requires { ⌜ Rows (now keys) (now standings) n ⌝ }
+    ensures { λ r. ⌜ Rewritten (held (now (keys .entry)) (now (standings .entry)) limit) n (now (standings .entry)) (now (standings .exit)) ⌝ }
+{
+    let mut i: usize = 0;
+    while i < n {
+        standings[i] = sifted(standings[i], keys[i], limit);
+        i += 1;
+    }
 }
