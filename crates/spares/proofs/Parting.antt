@@ -4,23 +4,21 @@
 -- under which exactly `spare` contend; a key under which at most `spare` contend, while more do under the next.
 -- Assumes nothing.
 use mathlib.Core.Path.{_≡_}
-use mathlib.Core.Bool.{Bool, _&&_}
-use Prim.Native.Nat.{ℕ, suc, _≤_, _<_}
+use mathlib.Core.Bool.{Bool, and-false}
+use Prim.Native.Nat.{ℕ, suc, _≤_, _<_, zero-le}
 use native.Mathlib.Omega.{arith}
-use lib.Dec.{ltb}
 use borrow.Author.Tests.{ltb-true, lt-ltb, le-ltb}
 use Rattle.laws.specs.Sum.{countWhere}
-use Rattle.laws.proofs.Cases.{and-left, and-right, and-true}
 use Rattle.laws.proofs.Counts.{countWhere-mono}
 use Rattle.laws.proofs.Where.{sumWhere-none}
 use Rattle.spares.specs.Sieve.{AtMost, Parts, countUnder}
-use Rattle.spares.proofs.Tests.{and-false, and-implies}
+use Rattle.spares.proofs.Tests.{and-implies}
 
 module _ (contends : ℕ → Bool) (key : ℕ → ℕ) (n : ℕ) where
   -- no key is under 0
   pub under-zero : countUnder contends key 0 n ≡ 0
   unfolding countUnder countWhere
-  under-zero = sumWhere-none _ _ n (λ i l. and-false (contends i) (le-ltb (key i) 0 (omega arith)))
+  under-zero = sumWhere-none _ _ n (λ i l. rw (le-ltb (key i) 0 zero-le) (and-false (contends i)))
 
   -- under a higher limit stand no fewer
   under-mono : (low high : ℕ) → low ≤ high → countUnder contends key low n ≤ countUnder contends key high n

@@ -8,10 +8,6 @@ use lib.Dec.{ltb}
 use borrow.Author.Tests.{lt-ltb, le-ltb}
 use Rattle.laws.proofs.Cases.{by-order}
 
-pub and-false : (w : Bool) {s : Bool} → s ≡ false → w && s ≡ false
-and-false true e = e
-and-false false e = refl
-
 pub and-implies : (w : Bool) {s t : Bool} → (s ≡ true → t ≡ true) → w && s ≡ true → w && t ≡ true
 and-implies true h e = h e
 and-implies false h e = e
