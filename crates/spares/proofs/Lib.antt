@@ -1,6 +1,6 @@
 pub mod Tests
 pub mod Winning
-pub mod Sift
+pub mod Steps
 pub mod Parting
 pub mod Rewriting
 pub mod Telling

@@ -16,7 +16,7 @@ use Rattle.laws.proofs.Orders.{thenBy, by-comparison}
 use Rattle.spares.specs.Contest.{wins, contenders}
 use Rattle.spares.specs.Sieve.{Parts, countUnder, comesOut, held, keyOf, stands, winners}
 use Rattle.spares.specs.Award.{Rewritten, Sifted, Told}
-use Rattle.spares.proofs.Sift.{level, sift-step}
+use Rattle.spares.proofs.Steps.{level, sift-step}
 use Rattle.spares.proofs.Winning.{wins-contenders, wins-nothing}
 
 stands-contends : (x k t : ℕ) → eqb (stands x k t) 1 ≡ eqb x 1 && eqb k t
@@ -43,34 +43,37 @@ stands-won x k t =
 
 module _ (keys entry exit : List ℕ) (n spare limit : ℕ) (kept : Rewritten (held keys entry limit) n entry exit) where
   contends-after : (j : ℕ) → j < n → contenders exit j ≡ level (contenders entry) (keyOf keys) limit j
+  unfolding held
   contends-after j l = ap (λ (x : ℕ). eqb x 1) (kept .within j l) ∙ stands-contends (getD entry j 0) (keyOf keys j) limit
 
   won-after : (i : ℕ) → i < n → winners exit i ≡ winners entry i || (contenders entry i && ltb (keyOf keys i) limit)
+  unfolding held
   won-after i l = ap (λ (x : ℕ). eqb x 2) (kept .within i l) ∙ stands-won (getD entry i 0) (keyOf keys i) limit
 
-  abbrev left : ℕ
-  left = spare - countUnder (contenders entry) (keyOf keys) limit n
-
-  pub told-key : Parts (contenders entry) (keyOf keys) n spare limit → Sifted keys n entry spare exit left
-  told-key parts rest irreflexive =
-      record {
+  pub told-key : (won : ℕ) → won ≡ countUnder (contenders entry) (keyOf keys) limit n
+      → Parts (contenders entry) (keyOf keys) n spare limit → Sifted keys n entry spare exit (spare - won)
+  told-key won e parts rest irreflexive =
+      rw e
+      (record {
         rows = kept .rows;
         within = λ i l.
-            ap₂ _||_ (won-after i l) (wins-contenders _ _ rest n left i contends-after l)
+            ap₂ _||_ (won-after i l) (wins-contenders _ _ rest n _ i contends-after l)
             ∙ or-assoc (winners entry i) _ _
             ∙ ap (λ (b : Bool). winners entry i || b) (sym (sift-step _ _ rest n spare limit i parts l (irreflexive i)));
         beyond = kept .beyond;
-      }
+      })
 
 -- where nothing is left the standings tell it all
-pub told-nothing : (n : ℕ) (whole rest : ℕ → ℕ → Bool) (entry : List ℕ) → Told n whole rest entry 0 entry 0
-told-nothing n whole rest entry =
-    record {
+pub told-nothing : (n spare : ℕ) (whole rest : ℕ → ℕ → Bool) (entry : List ℕ)
+    → spare ≡ 0 → Told n whole rest entry spare entry 0
+told-nothing n spare whole rest entry e =
+    rw e
+    (record {
       rows = refl;
       within = λ i l.
           ap (λ (b : Bool). winners entry i || b) (wins-nothing _ rest n i ∙ sym (wins-nothing _ whole n i));
       beyond = λ i l. refl;
-    }
+    })
 
 pub told-then : (n : ℕ) (whole part rest : ℕ → ℕ → Bool) (spare some left : ℕ) (entry between exit : List ℕ)
     → Told n whole part entry spare between some → Told n part rest between some exit left

@@ -49,9 +49,13 @@ abbrev pub stands : ℕ → ℕ → ℕ → ℕ
 stands standing key limit = cond (eqb standing 1) (cond (ltb key limit) 2 (cond (eqb key limit) 1 0)) standing
 
 -- where the rows of a list stand after
-abbrev pub held : List ℕ → List ℕ → ℕ → ℕ → ℕ
+unfoldable pub held : List ℕ → List ℕ → ℕ → ℕ → ℕ
 held keys standings limit i = stands (getD standings i 0) (keyOf keys i) limit
 
 -- 1 for a row that has won, and for one that still contends where something is left; else 0
 abbrev pub receives : ℕ → ℕ → ℕ
 receives standing left = cond (eqb standing 2 || (eqb standing 1 && ltb 0 left)) 1 0
+
+-- what the rows of a list receive
+unfoldable pub settled : List ℕ → ℕ → ℕ → ℕ
+settled standings left i = receives (getD standings i 0) left

@@ -8,8 +8,8 @@ ghost use Prim.Native.Nat.{ℕ, _≤_, _<_};
 ghost use lib.ListN.{length, getD};
 ghost use lib.Dec.{ltb, eqb};
 ghost use Rattle.spares.specs.Contest.{contenders};
-ghost use Rattle.spares.specs.Sieve.{AtMost, Parts, Rows, countUnder, keyOf, held, stands};
-ghost use Rattle.spares.specs.Award.{Rewritten};
+ghost use Rattle.spares.specs.Sieve.{AtMost, Parts, Rows, countUnder, held, keyOf, receives, settled, stands};
+ghost use Rattle.spares.specs.Award.{Rewritten, Sifted};
 
 // A contender with a key under the limit counts as one.
 fn counted(standing: u32, key: u32, limit: u32) -> u32
@@ -112,6 +112,47 @@ fn hold(keys: &[u32], standings: &mut [u32], n: usize, limit: u32)
     let mut i: usize = 0;
     while i < n {
         standings[i] = sifted(standings[i], keys[i], limit);
+        i += 1;
+    }
+}
+
+// Tells the contest by one key, and returns what is left of the spare tenths. Where nothing is left there is nothing to tell.
+fn sift(keys: &[u32], standings: &mut [u32], n: usize, spare: u32) -> u32
+    requires { ⌜ Rows (now keys) (now standings) n ⌝ }
+    ensures { λ r. ⌜ Sifted (now (keys .entry)) n (now (standings .entry)) spare (now (standings .exit)) r ⌝ }
+{
+    if spare == 0 {
+        return 0;
+    }
+    let limit = threshold(keys, standings, n, spare);
+    let won = under(keys, standings, n, limit);
+    hold(keys, standings, n, limit);
+    spare - won
+}
+
+// What a row receives in the end.
+fn received(standing: u32, left: u32) -> u32
+    ensures { λ r. ⌜ r ≡ receives standing left ⌝ }
+{
+    if standing == 2 {
+        return 1;
+    }
+    if standing == 1 {
+        if 0 < left {
+            return 1;
+        }
+    }
+    0
+}
+
+// Puts what each row receives in the place of its standing.
+fn settle(standings: &mut [u32], n: usize, left: u32)
+    requires { ⌜ n ≤ length (now standings) ⌝ }
+    ensures { λ r. ⌜ Rewritten (settled (now (standings .entry)) left) n (now (standings .entry)) (now (standings .exit)) ⌝ }
+{
+    let mut i: usize = 0;
+    while i < n {
+        standings[i] = received(standings[i], left);
         i += 1;
     }
 }

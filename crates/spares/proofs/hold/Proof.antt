@@ -51,6 +51,7 @@ loop-less : tie.Need-loop-less Inv-loop μ-loop
 loop-less c = search needs
 
 loop-again : tie.Need-loop-again Inv-loop μ-loop
+unfolding held
 loop-again c =
     let before = c .before .before .before .before .loop .inv .1 in
     (omega arith,
