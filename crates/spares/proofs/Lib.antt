@@ -4,3 +4,4 @@ pub mod Steps
 pub mod Parting
 pub mod Rewriting
 pub mod Telling
+pub mod Awarding

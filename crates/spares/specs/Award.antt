@@ -32,6 +32,19 @@ abbrev pub Sifted : List ℕ → ℕ → List ℕ → ℕ → List ℕ → ℕ �
 Sifted keys n entry spare exit left =
     (rest : ℕ → ℕ → Bool) → ((i : ℕ) → rest i i ≡ false) → Told n (thenBy (keyOf keys) rest) rest entry spare exit left
 
+-- what `award` asks of its lists
+pub record Ready (k₁ k₂ k₃ k₄ standings : List ℕ) (n : ℕ) : Type 0 where
+  -- each of the first n rows has four keys and a standing
+  pub first : n ≤ length k₁
+  pub second : n ≤ length k₂
+  pub third : n ≤ length k₃
+  pub fourth : n ≤ length k₄
+  pub standing : n ≤ length standings
+  -- there are no more rows than a book has
+  pub few : n ≤ 600
+  -- a row contends or does not: none has won yet
+  pub fresh : (i : ℕ) → i < n → getD standings i 0 ≤ 1
+
 -- each of the first n rows stands at 1 where it wins a spare tenth by the four keys, and else at 0
 abbrev pub Awarded : List ℕ → List ℕ → List ℕ → List ℕ → List ℕ → ℕ → ℕ → List ℕ → Type 0
 Awarded k₁ k₂ k₃ k₄ entry n spare exit =
