@@ -1,15 +1,15 @@
 -- The whole contest: four keys told one after another, and what each row receives in the end.
 -- Assumes nothing.
 use mathlib.Core.Path.{_≡_, refl, sym, ap, _∙_}
-use mathlib.Core.Bool.{Bool, false, cond, _||_}
+use mathlib.Core.Bool.{Bool, cond, _||_}
 use mathlib.Core.List.{List}
 use Prim.Native.Nat.{ℕ, _≤_, _<_}
 use native.Mathlib.Omega.{arith}
 use lib.ListN.{getD}
 use borrow.Author.Tests.{ne-eqb}
-use Rattle.laws.proofs.Orders.{byKey, thenBy, byKey-order, thenBy-order}
+use Rattle.laws.proofs.Orders.{byKey, byKey-order, thenBy-order}
 use Rattle.spares.specs.Contest.{wins, contenders, inOrder}
-use Rattle.spares.specs.Sieve.{comesOut, keyOf, settled, winners}
+use Rattle.spares.specs.Sieve.{keyOf, settled, winners}
 use Rattle.spares.specs.Award.{Awarded, Rewritten, Sifted, Told}
 use Rattle.spares.proofs.Telling.{told-then}
 use Rattle.spares.proofs.Winning.{noOrder, wins-last, wins-level}

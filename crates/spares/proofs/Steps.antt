@@ -3,14 +3,14 @@
 -- In order: what a rank is to a contender under the parting key, over it, and at it; and the law that who contends under it
 -- wins, and who contends at it goes on with what is left.
 -- Assumes nothing.
-use mathlib.Core.Path.{_≡_, refl, sym, ap, _∙_}
+use mathlib.Core.Path.{_≡_, refl, sym, _∙_}
 use mathlib.Core.Bool.{Bool, true, false, _&&_, _||_}
 use Prim.Native.Nat.{ℕ, suc, _+_, _-_, _≤_, _<_}
 use native.Mathlib.Omega.{arith}
 use lib.Dec.{ltb, eqb}
 use borrow.Author.Tests.{ltb-true, eqb-true, lt-ltb, le-ltb, eq-eqb, ne-eqb}
 use Rattle.laws.specs.Sum.{countWhere}
-use Rattle.laws.proofs.Cases.{by-order, by-test, and-left, and-right}
+use Rattle.laws.proofs.Cases.{by-test, and-left, and-right}
 use Rattle.laws.proofs.Counts.{countWhere-mono, countWhere-less}
 use Rattle.laws.proofs.Orders.{thenBy, by-comparison, thenBy-lower}
 use Rattle.laws.proofs.Ranks.{rankAmong}

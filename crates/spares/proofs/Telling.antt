@@ -4,7 +4,7 @@
 -- to win; one part told after another.
 -- Assumes nothing.
 use mathlib.Core.Path.{_≡_, refl, sym, ap, ap₂, _∙_}
-use mathlib.Core.Bool.{Bool, true, false, _&&_, _||_, or-assoc, or-false}
+use mathlib.Core.Bool.{Bool, _&&_, _||_, or-assoc, or-false}
 use mathlib.Core.List.{List}
 use Prim.Native.Nat.{ℕ, _-_, _<_}
 use native.Mathlib.Omega.{arith}
@@ -12,9 +12,9 @@ use lib.ListN.{getD}
 use lib.Dec.{ltb, eqb}
 use borrow.Author.Tests.{lt-ltb, le-ltb, eq-eqb, ne-eqb}
 use Rattle.laws.proofs.Cases.{by-equality}
-use Rattle.laws.proofs.Orders.{thenBy, by-comparison}
-use Rattle.spares.specs.Contest.{wins, contenders}
-use Rattle.spares.specs.Sieve.{Parts, countUnder, comesOut, held, keyOf, stands, winners}
+use Rattle.laws.proofs.Orders.{by-comparison}
+use Rattle.spares.specs.Contest.{contenders}
+use Rattle.spares.specs.Sieve.{Parts, countUnder, held, keyOf, stands, winners}
 use Rattle.spares.specs.Award.{Rewritten, Sifted, Told}
 use Rattle.spares.proofs.Steps.{level, sift-step}
 use Rattle.spares.proofs.Winning.{wins-contenders, wins-nothing}

@@ -2,7 +2,7 @@
 --
 -- In order: the same contenders; the same order; nothing to win; an order in which no one stands before another.
 -- Assumes nothing.
-use mathlib.Core.Path.{_≡_, refl, sym, ap, ap₂, _∙_}
+use mathlib.Core.Path.{_≡_, ap, ap₂}
 use mathlib.Core.Bool.{Bool, false, _&&_, and-false, or-false}
 use Prim.Native.Nat.{ℕ, _<_, zero-le}
 use lib.Dec.{ltb}

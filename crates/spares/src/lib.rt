@@ -1,92 +1,14 @@
 // Who gets the spare tenths: rows contend by one key after another, the lowest first.
 //
-// No sort: for each key a limit is found by halves, such that who contends under it wins and who contends at it goes on to
-// the next key. A row stands at 0 where it is out, at 1 where it contends and at 2 where it has won.
+// No sort: for each key a limit is found such that who contends under it wins and who contends at it goes on to the next
+// key. A row stands at 0 where it is out, at 1 where it contends and at 2 where it has won.
+mod limit;
+
 ghost use mathlib.Core.Path.{_≡_};
-ghost use mathlib.Core.Bool.{cond, true, _&&_};
-ghost use Prim.Native.Nat.{ℕ, _≤_, _<_};
-ghost use lib.ListN.{length, getD};
-ghost use lib.Dec.{ltb, eqb};
-ghost use Rattle.spares.specs.Contest.{contenders};
-ghost use Rattle.spares.specs.Sieve.{AtMost, Parts, Rows, countUnder, held, keyOf, receives, settled, stands};
+ghost use Prim.Native.Nat.{_≤_};
+ghost use lib.ListN.{length};
+ghost use Rattle.spares.specs.Sieve.{Rows, held, receives, settled, stands};
 ghost use Rattle.spares.specs.Award.{Awarded, Ready, Rewritten, Sifted};
-
-// A contender with a key under the limit counts as one.
-fn counted(standing: u32, key: u32, limit: u32) -> u32
-    ensures { λ r. ⌜ (r ≡ cond (eqb standing 1 && ltb key limit) 1 0) × (r ≤ 1) ⌝ }
-{
-    if standing == 1 {
-        if key < limit {
-            return 1;
-        }
-    }
-    0
-}
-
-// How many of the first n rows contend with a key under the limit.
-fn under(keys: &[u32], standings: &[u32], n: usize, limit: u32) -> u32
-    requires { ⌜ Rows (now keys) (now standings) n ⌝ }
-    ensures { λ r. ⌜ r ≡ countUnder (contenders (now (standings .entry))) (keyOf (now (keys .entry))) limit n ⌝ }
-{
-    let mut count: u32 = 0;
-    let mut i: usize = 0;
-    while i < n {
-        count += counted(standings[i], keys[i], limit);
-        i += 1;
-    }
-    count
-}
-
-// The higher of a number and a contender's key.
-fn raised(high: u32, standing: u32, key: u32) -> u32
-    ensures { λ r. ⌜ (high ≤ r) × (standing ≡ 1 → key ≤ r) ⌝ }
-{
-    if standing == 1 {
-        if high < key {
-            return key;
-        }
-    }
-    high
-}
-
-// A number that no contender's key passes.
-fn highest(keys: &[u32], standings: &[u32], n: usize) -> u32
-    requires { ⌜ Rows (now keys) (now standings) n ⌝ }
-    ensures { λ r. ⌜ AtMost (contenders (now (standings .entry))) (keyOf (now (keys .entry))) n r ⌝ }
-{
-    let mut high: u32 = 0;
-    let mut i: usize = 0;
-    while i < n {
-        high = raised(high, standings[i], keys[i]);
-        i += 1;
-    }
-    high
-}
-
-// A key such that who contends under it wins and who contends over it does not.
-fn threshold(keys: &[u32], standings: &[u32], n: usize, spare: u32) -> u32
-    requires { ⌜ Rows (now keys) (now standings) n ⌝ }
-    ensures { λ r. ⌜ Parts (contenders (now (standings .entry))) (keyOf (now (keys .entry))) n spare r ⌝ }
-{
-    let mut high = highest(keys, standings, n);
-    if under(keys, standings, n, high) <= spare {
-        return high;
-    }
-    let mut low: u32 = 0;
-    while 1 < high - low {
-        let mid = high - (high - low) / 2;
-        let count = under(keys, standings, n, mid);
-        if count == spare {
-            return mid;
-        }
-        if count < spare {
-            low = mid;
-        } else {
-            high = mid;
-        }
-    }
-    low
-}
 
 // Where a row stands after its key is held to the limit: a contender has won under it, contends at it, and is out over it.
 fn sifted(standing: u32, key: u32, limit: u32) -> u32
@@ -124,8 +46,8 @@ fn sift(keys: &[u32], standings: &mut [u32], n: usize, spare: u32) -> u32
     if spare == 0 {
         return 0;
     }
-    let limit = threshold(keys, standings, n, spare);
-    let won = under(keys, standings, n, limit);
+    let limit = limit::threshold(keys, standings, n, spare);
+    let won = limit::under(keys, standings, n, limit);
     hold(keys, standings, n, limit);
     spare - won
 }
@@ -159,7 +81,15 @@ fn settle(standings: &mut [u32], n: usize, left: u32)
 
 // Gives each of `spare` tenths to a row that contends, at 1: the lowest keys first, by four keys one after another. A row
 // that receives a tenth stands at 1 in the end, and every other at 0.
-pub fn award(k1: &[u32], k2: &[u32], k3: &[u32], k4: &[u32], standings: &mut [u32], n: usize, spare: u32)
+pub fn award(
+    k1: &[u32],
+    k2: &[u32],
+    k3: &[u32],
+    k4: &[u32],
+    standings: &mut [u32],
+    n: usize,
+    spare: u32,
+)
     requires { ⌜ Ready (now k1) (now k2) (now k3) (now k4) (now standings) n ⌝ }
     ensures { λ r. ⌜ Awarded (now (k1 .entry)) (now (k2 .entry)) (now (k3 .entry)) (now (k4 .entry)) (now (standings .entry)) n spare (now (standings .exit)) ⌝ }
 {

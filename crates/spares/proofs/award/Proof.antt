@@ -4,10 +4,6 @@ use borrow.Author.Needs.{needs}
 use Rattle.spares.proofs.Awarding.{awarded}
 use Rattle.spares.proofs.award.Statement.{statement}
 use Rattle.spares.proofs.award.Tie as tie
-use Rattle.spares.proofs.award.Reads as reads
-use Rattle.spares.proofs.award.Lts as lts
-use Rattle.spares.proofs.settle.Reads as settle-reads
-use Rattle.spares.proofs.sift.Reads as sift-reads
 
 sift-requires : tie.Need-sift-requires
 sift-requires c κs = search needs

@@ -1,18 +1,14 @@
 -- `hold` holds each row's key to the limit. The loop's invariant: the rows passed are rewritten.
 -- Assumes nothing.
-use mathlib.Core.Path.{_≡_, ap, _∙_}
-use Prim.Native.Nat.{ℕ, _≤_, _-_}
+use Prim.Native.Nat.{_≤_, _-_}
 use native.Mathlib.Nat.{le-refl}
 use native.Mathlib.Omega.{arith}
 use borrow.Author.Needs.{needs}
-use Rattle.spares.specs.Sieve.{held, stands}
+use Rattle.spares.specs.Sieve.{held}
 use Rattle.spares.specs.Award.{Rewritten}
 use Rattle.spares.proofs.Rewriting.{rewritten-none, rewritten-more, rewritten-all}
 use Rattle.spares.proofs.hold.Statement.{statement}
 use Rattle.spares.proofs.hold.Tie as tie
-use Rattle.spares.proofs.hold.Reads as reads
-use Rattle.spares.proofs.hold.Lts as lts
-use Rattle.spares.proofs.sifted.Reads as sifted-reads
 
 abbrev Inv-loop : tie.InvT-loop
 Inv-loop keys standings₀ n limit i₀ standings i = (i ≤ n) × Rewritten (held keys standings₀ limit) i standings₀ standings
@@ -53,10 +49,11 @@ loop-less c = search needs
 loop-again : tie.Need-loop-again Inv-loop μ-loop
 unfolding held
 loop-again c =
-    let before = c .before .before .before .before .loop .inv .1 in
-    (omega arith,
-    rewritten-more _ _ _ _ _ before (omega arith)
-    (rw (before .beyond (c .before .before .before .before .loop .i) (le-refl _)) at (c .sifted .ensures)))
+    let before = c .before .before .before .before .loop .inv .1 in (
+      omega arith,
+      rewritten-more _ _ _ _ _ before (omega arith)
+          (rw (before .beyond (c .before .before .before .before .loop .i) (le-refl _)) at (c .sifted .ensures)),
+    )
 
 same-length : tie.Need-same-length Inv-loop μ-loop
 same-length c = search needs

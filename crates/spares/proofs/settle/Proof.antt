@@ -9,9 +9,6 @@ use Rattle.spares.specs.Award.{Rewritten}
 use Rattle.spares.proofs.Rewriting.{rewritten-none, rewritten-more, rewritten-all}
 use Rattle.spares.proofs.settle.Statement.{statement}
 use Rattle.spares.proofs.settle.Tie as tie
-use Rattle.spares.proofs.settle.Reads as reads
-use Rattle.spares.proofs.settle.Lts as lts
-use Rattle.spares.proofs.received.Reads as received-reads
 
 abbrev Inv-loop : tie.InvT-loop
 Inv-loop standings₀ n left i₀ standings i = (i ≤ n) × Rewritten (settled standings₀ left) i standings₀ standings
@@ -46,10 +43,11 @@ loop-less c = search needs
 loop-again : tie.Need-loop-again Inv-loop μ-loop
 unfolding settled
 loop-again c =
-    let before = c .before .before .before .loop .inv .1 in
-    (omega arith,
-    rewritten-more _ _ _ _ _ before (omega arith)
-    (rw (before .beyond (c .before .before .before .loop .i) (le-refl _)) at (c .received .ensures)))
+    let before = c .before .before .before .loop .inv .1 in (
+      omega arith,
+      rewritten-more _ _ _ _ _ before (omega arith)
+          (rw (before .beyond (c .before .before .before .loop .i) (le-refl _)) at (c .received .ensures)),
+    )
 
 same-length : tie.Need-same-length Inv-loop μ-loop
 same-length c = search needs

@@ -1,15 +1,9 @@
 -- `sift` tells the contest by one key: nothing where nothing is left, and else by the key that parts the contenders.
 -- Assumes nothing.
-use native.Mathlib.Omega.{arith}
 use borrow.Author.Needs.{needs}
 use Rattle.spares.proofs.Telling.{told-key, told-nothing}
 use Rattle.spares.proofs.sift.Statement.{statement}
 use Rattle.spares.proofs.sift.Tie as tie
-use Rattle.spares.proofs.sift.Reads as reads
-use Rattle.spares.proofs.sift.Lts as lts
-use Rattle.spares.proofs.hold.Reads as hold-reads
-use Rattle.spares.proofs.threshold.Reads as threshold-reads
-use Rattle.spares.proofs.under.Reads as under-reads
 
 returns : tie.Need-returns
 returns c = λ rest i. told-nothing _ _ _ rest _ (c .if1 .taken)

@@ -1,18 +1,15 @@
 -- `under` counts the contenders under a limit. The loop's invariant: those of the rows passed.
 -- Assumes nothing.
 use mathlib.Core.Path.{_≡_, ap, _∙_}
-use Prim.Native.Nat.{ℕ, _≤_, _-_}
+use Prim.Native.Nat.{_≤_, _-_}
 use native.Mathlib.Omega.{arith}
 use borrow.Author.Needs.{needs}
 use Rattle.laws.specs.Sum.{sumWhere, countWhere}
 use Rattle.laws.proofs.Loops.{added-none, added-more}
 use Rattle.spares.specs.Contest.{contenders}
 use Rattle.spares.specs.Sieve.{countUnder, keyOf}
-use Rattle.spares.proofs.under.Statement.{statement}
-use Rattle.spares.proofs.under.Tie as tie
-use Rattle.spares.proofs.under.Reads as reads
-use Rattle.spares.proofs.under.Lts as lts
-use Rattle.spares.proofs.counted.Reads as counted-reads
+use Rattle.spares.proofs.limit.under.Statement.{statement}
+use Rattle.spares.proofs.limit.under.Tie as tie
 
 abbrev Inv-loop : tie.InvT-loop
 Inv-loop keys standings n limit count₀ i₀ count i = (i ≤ n) × (count ≡ countUnder (contenders standings) (keyOf keys) limit i) × (count ≤ i)

@@ -1,19 +1,14 @@
 -- `threshold` finds a key that parts the contenders, by halves. The loop's invariant: at most `spare` contend under `low`, and
 -- more do under `high`.
 -- Assumes nothing.
-use mathlib.Core.Path.{_≡_}
-use Prim.Native.Nat.{ℕ, suc, _+_, _≤_, _<_, _-_}
+use Prim.Native.Nat.{_≤_, _<_, _-_}
 use native.Mathlib.Omega.{arith}
 use borrow.Author.Needs.{needs}
 use Rattle.spares.specs.Contest.{contenders}
 use Rattle.spares.specs.Sieve.{countUnder, keyOf}
 use Rattle.spares.proofs.Parting.{under-zero, parts-top, parts-exact, parts-next}
-use Rattle.spares.proofs.threshold.Statement.{statement}
-use Rattle.spares.proofs.threshold.Tie as tie
-use Rattle.spares.proofs.threshold.Reads as reads
-use Rattle.spares.proofs.threshold.Lts as lts
-use Rattle.spares.proofs.highest.Reads as highest-reads
-use Rattle.spares.proofs.under.Reads as under-reads
+use Rattle.spares.proofs.limit.threshold.Statement.{statement}
+use Rattle.spares.proofs.limit.threshold.Tie as tie
 
 abbrev Inv-loop : tie.InvT-loop
 Inv-loop keys standings n spare high₀ low₀ high low =

@@ -1,8 +1,6 @@
 -- `highest` finds a number that no contender's key passes. The loop's invariant: no contender's of the rows passed.
 -- Assumes nothing.
-use mathlib.Core.Bool.{true}
-use mathlib.Core.Path.{_≡_}
-use Prim.Native.Nat.{ℕ, _≤_, _-_}
+use Prim.Native.Nat.{_≤_, _-_}
 use native.Mathlib.Nat.{le-trans}
 use native.Mathlib.Omega.{arith}
 use borrow.Author.Count.{below-none, below-more}
@@ -10,11 +8,8 @@ use borrow.Author.Needs.{needs}
 use borrow.Author.Tests.{eqb-true}
 use Rattle.spares.specs.Contest.{contenders}
 use Rattle.spares.specs.Sieve.{AtMost, keyOf}
-use Rattle.spares.proofs.highest.Statement.{statement}
-use Rattle.spares.proofs.highest.Tie as tie
-use Rattle.spares.proofs.highest.Reads as reads
-use Rattle.spares.proofs.highest.Lts as lts
-use Rattle.spares.proofs.raised.Reads as raised-reads
+use Rattle.spares.proofs.limit.highest.Statement.{statement}
+use Rattle.spares.proofs.limit.highest.Tie as tie
 
 abbrev Inv-loop : tie.InvT-loop
 Inv-loop keys standings n high₀ i₀ high i = (i ≤ n) × AtMost (contenders standings) (keyOf keys) i high
@@ -48,11 +43,12 @@ loop-less c = search needs
 
 loop-again : tie.Need-loop-again Inv-loop μ-loop
 loop-again c =
-    let before = c .before .before .before .before .loop .inv .1 in
-    (omega arith,
-    below-more _ _
-    (λ k l e. le-trans (before k l e) (c .raised .ensures .0))
-    (λ e. c .raised .ensures .1 (eqb-true _ _ e)))
+    let before = c .before .before .before .before .loop .inv .1 in (
+      omega arith,
+      below-more _ _
+          (λ k l e. le-trans (before k l e) (c .raised .ensures .0))
+          (λ e. c .raised .ensures .1 (eqb-true _ _ e)),
+    )
 
 returns : tie.Need-returns Inv-loop μ-loop
 returns c = λ i l. c .before .loop .inv .1 i (omega arith)
