@@ -1,4 +1,6 @@
--- The whole contest: four keys told one after another, and what each row receives in the end.
+-- The whole contest.
+--
+-- In order: the last key told; four keys told one after another; what a row receives; what `award` leaves.
 -- Assumes nothing.
 use mathlib.Core.Path.{_≡_, refl, sym, ap, _∙_}
 use mathlib.Core.Bool.{Bool, cond, _||_}
@@ -27,6 +29,7 @@ told-last keys n spare left entry exit sifted =
     }
 
 module _ (k₁ k₂ k₃ k₄ : List ℕ) (n spare : ℕ) (entry : List ℕ) where
+  -- who wins the contest
   abbrev won : ℕ → Bool
   won = wins (contenders entry) (inOrder k₁ k₂ k₃ k₄) n spare
 

@@ -1,7 +1,6 @@
 -- Keys that part the contenders, as a search by halves meets them.
 --
--- In order: how many contend under 0 and under a higher limit; the highest key, where at most `spare` contend under it; a key
--- under which exactly `spare` contend; a key under which at most `spare` contend, while more do under the next.
+-- In order: how many contend under 0 and under a higher limit; the three keys that a search may end with.
 -- Assumes nothing.
 use mathlib.Core.Path.{_≡_}
 use mathlib.Core.Bool.{Bool, and-false}
@@ -28,12 +27,15 @@ module _ (contends : ℕ → Bool) (key : ℕ → ℕ) (n : ℕ) where
       (λ i l. and-implies (contends i) (λ t. lt-ltb (key i) high (omega (arith, ltb-true (key i) low t))))
 
   module _ (spare limit : ℕ) where
+    -- the highest key, where it is not too high, parts them: no one is over it
     pub parts-top : AtMost contends key n limit → countUnder contends key limit n ≤ spare → Parts contends key n spare limit
     parts-top top h = record { enough = h; taken = λ i l c k. absurd (omega (arith, top i l c)) }
 
+    -- a key under which exactly `spare` contend parts them
     pub parts-exact : countUnder contends key limit n ≡ spare → Parts contends key n spare limit
     parts-exact e = record { enough = omega arith; taken = λ i l c k. omega (arith, under-mono limit (suc limit) (omega arith)) }
 
+    -- a key under which at most `spare` contend parts them, where more do under a key at most one higher
     pub parts-next : (high : ℕ) → high ≤ suc limit
         → countUnder contends key limit n ≤ spare → spare < countUnder contends key high n → Parts contends key n spare limit
     parts-next high l h g = record { enough = h; taken = λ i m c k. omega (arith, under-mono high (suc limit) l) }

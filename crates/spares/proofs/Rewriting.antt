@@ -1,4 +1,4 @@
--- Standings rewritten row by row, as a loop does it: none yet, and one row more.
+-- Standings rewritten row by row, as a loop does it: none yet, one row more, all.
 -- Assumes nothing.
 use mathlib.Core.Path.{_≡_, refl, _∙_}
 use mathlib.Core.List.{List}
@@ -10,10 +10,12 @@ use lib.Seq.{getD-set-same, getD-set-other}
 use borrow.Author.Count.{below-more}
 use Rattle.spares.specs.Award.{Rewritten}
 
+-- no row is rewritten yet
 pub rewritten-none : (standing : ℕ → ℕ) (entry : List ℕ) → Rewritten standing 0 entry entry
 rewritten-none standing entry =
     record { rows = refl; within = λ i l. absurd (not-suc-le-zero l); beyond = λ i l. refl }
 
+-- one row more is rewritten by a store
 pub rewritten-more : (standing : ℕ → ℕ) (n v : ℕ) (entry exit : List ℕ)
     → Rewritten standing n entry exit → n < length exit → v ≡ standing n → Rewritten standing (n + 1) entry (set exit n v)
 rewritten-more standing n v entry exit r l e =

@@ -1,7 +1,7 @@
 -- A contest by a key and then by the rest of an order, told by a key that parts the contenders.
 --
--- In order: what a rank is to a contender under the parting key, over it, and at it; and the law that who contends under it
--- wins, and who contends at it goes on with what is left.
+-- In order: who contends at a limit; the rank of a contender under a limit, over it and at its own key; the law of one step,
+-- under the parting key, over it, at it, and at once.
 -- Assumes nothing.
 use mathlib.Core.Path.{_≡_, refl, sym, _∙_}
 use mathlib.Core.Bool.{Bool, true, false, _&&_, _||_}
@@ -55,6 +55,7 @@ module _ (contends : ℕ → Bool) (key : ℕ → ℕ) (rest : ℕ → ℕ → B
       countWhere-mono _ _ n
       (λ j l. and-implies (contends j) (λ t. thenBy-lower key rest j i (omega (arith, ltb-true (key j) (suc limit) t))))
 
+  -- who has a lower key than k does not have k
   apart : (j i k : ℕ) → contends j && ltb (key j) k ≡ true → level contends key k j && rest j i ≡ false
   apart j i k t =
       let l = ltb-true (key j) k (and-right (contends j) (ltb (key j) k) t) in
@@ -67,43 +68,44 @@ module _ (contends : ℕ → Bool) (key : ℕ → ℕ) (rest : ℕ → ℕ → B
       sumWhere-same _ _ _ n (λ j l. and-either (contends j) _ _ (rest j i))
       ∙ sym (sumWhere-either _ _ _ n (λ j l. apart j i (key i)))
 
-  -- what is left of the spare tenths once who contends under a limit has won
+  -- what is left once who contends under a limit has won
   abbrev left : ℕ → ℕ → ℕ
   left spare limit = spare - countUnder contends key limit n
 
-  -- who contends under the limit wins; who contends at it goes on, by the rest of the order, for what is left
+  -- of the contest by the whole order: i contends under the limit, or contends at it and wins what is left by the rest
   abbrev Step : ℕ → ℕ → ℕ → Type 0
   Step spare limit i =
       wins contends before n spare i
       ≡ (contends i && ltb (key i) limit) || wins (level contends key limit) rest n (left spare limit) i
 
-  told-under : (spare limit i : ℕ) → Parts contends key n spare limit → i < n
+  step-under : (spare limit i : ℕ) → Parts contends key n spare limit → i < n
       → contends i ≡ true → rest i i ≡ false → key i < limit → Step spare limit i
   unfolding wins
-  told-under spare limit i parts l c r k =
+  step-under spare limit i parts l c r k =
       rw (c, lt-ltb (key i) limit k, lt-ltb (rank i) spare (omega (arith, parts .enough, rank-under limit i l c r k)))
 
-  told-over : (spare limit i : ℕ) → Parts contends key n spare limit → i < n
+  step-over : (spare limit i : ℕ) → Parts contends key n spare limit → i < n
       → contends i ≡ true → limit < key i → Step spare limit i
   unfolding wins
-  told-over spare limit i parts l c k =
+  step-over spare limit i parts l c k =
       let none = le-ltb (rank i) spare (omega (arith, parts .taken i l c k, rank-over limit i k)) in
       rw (none, c, le-ltb (key i) limit (omega arith), ne-eqb (key i) limit (omega arith))
 
-  told-level : (spare limit i : ℕ) → Parts contends key n spare limit
+  step-level : (spare limit i : ℕ) → Parts contends key n spare limit
       → contends i ≡ true → key i ≡ limit → Step spare limit i
   unfolding wins
-  told-level spare limit i parts c e =
+  step-level spare limit i parts c e =
       rw (← e, c, le-ltb (key i) (key i) (omega arith), eq-eqb (key i) (key i) refl, rank-level i)
       (ltb-part (countUnder contends key (key i) n) _ spare (rw (← e) at (parts .enough)))
 
+  -- by a key that parts the contenders who contends under it wins, and who contends at it goes on for what is left
   pub sift-step : (spare limit i : ℕ) → Parts contends key n spare limit → i < n → rest i i ≡ false → Step spare limit i
   unfolding wins
   sift-step spare limit i parts l r =
       by-test (contends i)
       (λ c.
       by-comparison (key i) limit
-      (told-under spare limit i parts l c r)
-      (told-level spare limit i parts c)
-      (told-over spare limit i parts l c))
+      (step-under spare limit i parts l c r)
+      (step-level spare limit i parts c)
+      (step-over spare limit i parts l c))
       (λ c. rw c)

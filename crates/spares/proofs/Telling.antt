@@ -19,6 +19,7 @@ use Rattle.spares.specs.Award.{Rewritten, Sifted, Told}
 use Rattle.spares.proofs.Steps.{level, sift-step}
 use Rattle.spares.proofs.Winning.{wins-contenders, wins-nothing}
 
+-- who contends after a limit contended and has that key
 stands-contends : (x k t : ℕ) → eqb (stands x k t) 1 ≡ eqb x 1 && eqb k t
 stands-contends x k t =
     by-equality x 1
@@ -30,6 +31,7 @@ stands-contends x k t =
     (λ l. rw (le-ltb k t (omega arith), ne-eqb k t (omega arith)))))
     (λ h. rw (ne-eqb x 1 h) (ne-eqb x 1 h))
 
+-- who has won after a limit had won, or contended under it
 stands-won : (x k t : ℕ) → eqb (stands x k t) 2 ≡ eqb x 2 || (eqb x 1 && ltb k t)
 stands-won x k t =
     by-equality x 1
@@ -42,6 +44,7 @@ stands-won x k t =
     (λ h. rw (ne-eqb x 1 h) (sym (or-false (eqb x 2))))
 
 module _ (keys entry exit : List ℕ) (n spare limit : ℕ) (kept : Rewritten (held keys entry limit) n entry exit) where
+  -- the same of the rows of a list
   contends-after : (j : ℕ) → j < n → contenders exit j ≡ level (contenders entry) (keyOf keys) limit j
   unfolding held
   contends-after j l = ap (λ (x : ℕ). eqb x 1) (kept .within j l) ∙ stands-contends (getD entry j 0) (keyOf keys j) limit
@@ -50,6 +53,7 @@ module _ (keys entry exit : List ℕ) (n spare limit : ℕ) (kept : Rewritten (h
   unfolding held
   won-after i l = ap (λ (x : ℕ). eqb x 2) (kept .within i l) ∙ stands-won (getD entry i 0) (keyOf keys i) limit
 
+  -- a key held to a limit that parts the contenders is told
   pub told-key : (won : ℕ) → won ≡ countUnder (contenders entry) (keyOf keys) limit n
       → Parts (contenders entry) (keyOf keys) n spare limit → Sifted keys n entry spare exit (spare - won)
   told-key won e parts rest irreflexive =
@@ -75,6 +79,7 @@ told-nothing n spare whole rest entry e =
       beyond = λ i l. refl;
     })
 
+-- a part told, and then another
 pub told-then : (n : ℕ) (whole part rest : ℕ → ℕ → Bool) (spare some left : ℕ) (entry between exit : List ℕ)
     → Told n whole part entry spare between some → Told n part rest between some exit left
     → Told n whole rest entry spare exit left

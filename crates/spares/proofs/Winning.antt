@@ -1,6 +1,7 @@
 -- Laws of `wins`.
 --
--- In order: the same contenders; the same order; nothing to win; an order in which no one stands before another.
+-- In order: the same contenders; the same order; nothing to win; an order in which no one stands before another; such an order
+-- after the last key.
 -- Assumes nothing.
 use mathlib.Core.Path.{_≡_, ap, ap₂}
 use mathlib.Core.Bool.{Bool, false, _&&_, and-false, or-false}
@@ -18,6 +19,7 @@ use Rattle.spares.specs.Contest.{wins}
 abbrev pub noOrder : ℕ → ℕ → Bool
 noOrder i j = false
 
+-- where the same rows contend the same rows win
 pub wins-contenders : (s t : ℕ → Bool) (before : ℕ → ℕ → Bool) (n spare i : ℕ)
     → ((j : ℕ) → j < n → s j ≡ t j) → i < n → wins s before n spare i ≡ wins t before n spare i
 unfolding wins countWhere
@@ -25,6 +27,7 @@ wins-contenders s t before n spare i h l =
     ap₂ (λ (c : Bool) (rank : ℕ). c && ltb rank spare) (h i l)
     (sumWhere-same _ _ _ n (λ j m. ap (λ (c : Bool). c && before j i) (h j m)))
 
+-- where the same rows stand before i, i wins alike
 pub wins-order : (contends : ℕ → Bool) (before after : ℕ → ℕ → Bool) (n spare i : ℕ)
     → ((j : ℕ) → before j i ≡ after j i) → wins contends before n spare i ≡ wins contends after n spare i
 unfolding wins
@@ -42,7 +45,7 @@ unfolding wins countWhere
 wins-level contends n left i =
     ap (λ (rank : ℕ). contends i && ltb rank left) (sumWhere-none _ _ n (λ j l. and-false (contends j)))
 
--- the last key is followed by no order
+-- an order by one key is that key and then no order
 pub wins-last : (contends : ℕ → Bool) (key : ℕ → ℕ) (n spare i : ℕ)
     → wins contends (byKey key) n spare i ≡ wins contends (thenBy key noOrder) n spare i
 wins-last contends key n spare i =

@@ -26,14 +26,10 @@ under-requires : tie.Need-under-requires Inv-loop μ-loop
 under-requires c κs = search needs
 
 returns : tie.Need-returns Inv-loop μ-loop
-returns c =
-    let fewer = c .before .under .ensures in
-    parts-top _ _ _ _ _ (c .before .before .highest .ensures) (omega arith)
+returns c = parts-top _ _ _ _ _ (c .before .before .highest .ensures) (omega arith)
 
 loop-holds : tie.Need-loop-holds Inv-loop μ-loop
-loop-holds c =
-    let more = c .before .under .ensures in
-    (omega arith, rw under-zero (omega arith), omega arith)
+loop-holds c = (omega arith, rw under-zero (omega arith), omega arith)
 
 sub-loop : tie.Need-sub-loop Inv-loop μ-loop
 sub-loop c = search needs
@@ -48,7 +44,7 @@ under-requires-2 : tie.Need-under-requires-2 Inv-loop μ-loop
 under-requires-2 c κs = search needs
 
 returns-2 : tie.Need-returns-2 Inv-loop μ-loop
-returns-2 c = parts-exact _ _ _ _ _ (omega (arith, c .before .under2 .ensures))
+returns-2 c = parts-exact _ _ _ _ _ (omega arith)
 
 loop-less : tie.Need-loop-less Inv-loop μ-loop
 loop-less c = search needs
