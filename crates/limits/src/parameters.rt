@@ -1,6 +1,7 @@
 // Refusals 4 and 5: a parameter that is missing, or out of range.
+use values::Value;
+use values::Verdict;
 use values::head::Parameters;
-use values::{Value, Verdict};
 ghost use mathlib.Core.Path.{_≡_};
 ghost use Prim.Native.Nat.{_≤_};
 ghost use lib.ListN.{length};

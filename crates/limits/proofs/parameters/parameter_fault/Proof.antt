@@ -1,9 +1,8 @@
 -- `parameter_fault` is the first field whose value is given and out of range: what the tests before a way out say picks the
 -- field.
 -- Assumes nothing.
-use mathlib.Core.Path.{_≡_, sym, ap, _∙_}
-use mathlib.Core.Bool.{Bool, true, false}
-use Prim.Native.Nat.{ℕ}
+use mathlib.Core.Path.{_≡_, sym, _∙_}
+use mathlib.Core.Bool.{true}
 use borrow.Author.Needs.{needs}
 use borrow.Author.Tests.{not-true, not-false}
 use Rattle.limits.specs.Parameters.{within, givenWithin, offsetMost, rangeFault}
@@ -19,11 +18,13 @@ cost-within : (c : tie.Else2) → givenWithin 1 1000000 (c .before .before .befo
 cost-within c = sym (c .before .given-within .ensures) ∙ not-false _ (c .if2 .left)
 
 offset-within : (c : tie.Else3)
-    → givenWithin 0 (offsetMost (c .before .before .before .before .before .before .before .args .p .cost)) (c .before .before .before .before .before .before .before .args .p .offset)
-    ≡ true
+    → let p = c .before .before .before .before .before .before .before .args .p in
+    givenWithin 0 (offsetMost (p .cost)) (p .offset) ≡ true
 offset-within c = cc (not-false (c .before .given-within2 .result) (c .if3 .left))
 
-outage-within : (c : tie.Else4) → givenWithin 0 5000 (c .before .before .before .before .before .before .before .before .before .args .p .outage) ≡ true
+outage-within : (c : tie.Else4)
+    → let p = c .before .before .before .before .before .before .before .before .before .args .p in
+    givenWithin 0 5000 (p .outage) ≡ true
 outage-within c = sym (c .before .given-within3 .ensures) ∙ not-false _ (c .if4 .left)
 
 -- ---- the needs
