@@ -19,6 +19,7 @@ by-verdict (Refused number place) f g = g number place refl
 first-last : (test : ℕ → Verdict) (n : ℕ) → first test n ≡ Passed → test n ≡ Passed → first test (suc n) ≡ Passed
 first-last test n e t = first-suc test n ∙ andThen-next (first test n) (test n) e ∙ t
 
+-- none of n tests refuses, or one does after tests that pass
 pub by-first {ℓ} : {X : Type ℓ} (test : ℕ → Verdict) (n : ℕ)
     → (first test n ≡ Passed → X)
     → ((i number place : ℕ) → i < n → first test i ≡ Passed → test i ≡ Refused number place → X)

@@ -71,6 +71,7 @@ module _ (pricesNeeded : Bool) (offers : ℕ → Offer) (n : ℕ) (e : rowsFault
   unfolding rowsFault
   row-passed row l = first-at _ n row e l
 
+  -- Each row passes 6 and 7, and its resource number stands in no earlier row.
   pub rows-values : (row : ℕ) → row < n → offerFault pricesNeeded (offers row) row ≡ Passed
   rows-values row l = andThen-left (offerFault pricesNeeded (offers row) row) _ (row-passed row l)
 

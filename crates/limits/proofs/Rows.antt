@@ -47,13 +47,12 @@ module _ (pricesNeeded : Bool) (offers : ℕ → Offer) where
   abbrev rowTest : ℕ → Verdict
   rowTest row = andThen (valuesTest row) (repeatFault resource row)
 
-  rows-pass : (n : ℕ) → first valuesTest n ≡ Passed → every (fresh resource) n ≡ true → first rowTest n ≡ Passed
+  row-pass : (row : ℕ) → valuesTest row ≡ Passed → fresh resource row ≡ true → rowTest row ≡ valuesTest row
   unfolding repeatFault
-  rows-pass n e f =
-      first-ext rowTest valuesTest n
-      (λ i l. let passed : valuesTest i ≡ Passed = first-at valuesTest n i e l in
-      andThen-next (valuesTest i) _ passed ∙ unless-true (fresh resource i) _ (every-at _ n i f l) ∙ sym passed)
-      ∙ e
+  row-pass row e f = andThen-next (valuesTest row) _ e ∙ unless-true (fresh resource row) _ f ∙ sym e
+
+  rows-pass : (n : ℕ) → first valuesTest n ≡ Passed → every (fresh resource) n ≡ true → first rowTest n ≡ Passed
+  rows-pass n e f = first-ext rowTest valuesTest n (λ row l. row-pass row (first-at valuesTest n row e l) (every-at _ n row f l)) ∙ e
 
   -- a repeat among rows whose values pass
   rows-repeat : (n limit row : ℕ)

@@ -9,7 +9,7 @@ ghost use Rattle.values.specs.Head.{parametersOf};
 ghost use Rattle.limits.specs.Parameters.{within, givenWithin, offsetMost, missingMarks, missingFault, rangeFault};
 
 // 4 by the marks: trailing zeros of the inverted marks, plus two, give the first missing field.
-fn missing(marks: u8) -> Verdict
+pub fn missing(marks: u8) -> Verdict
     ensures { λ r. ⌜ r ≡ missingMarks marks ⌝ }
 {
     let gap = u8::trailing_zeros(!marks);

@@ -5,6 +5,8 @@ use mathlib.Core.Path.{_≡_, sym, _∙_}
 use mathlib.Core.Bool.{true}
 use borrow.Author.Needs.{needs}
 use borrow.Author.Tests.{not-true, not-false}
+use Rattle.values.specs.Refusals.{parameterOutOfRange, unless}
+use Rattle.values.proofs.Firsts.{unless-held, unless-failed}
 use Rattle.limits.specs.Parameters.{within, givenWithin, offsetMost, rangeFault}
 use Rattle.limits.proofs.parameters.parameter_fault.Statement.{statement}
 use Rattle.limits.proofs.parameters.parameter_fault.Tie as tie
@@ -26,6 +28,19 @@ outage-within : (c : tie.Else4)
     → let p = c .before .before .before .before .before .before .before .before .before .args .p in
     givenWithin 0 5000 (p .outage) ≡ true
 outage-within c = sym (c .before .given-within3 .ensures) ∙ not-false _ (c .if4 .left)
+
+-- past the other fields the requirement's test decides
+requirement-decides : (c : tie.Else4)
+    → let p = c .before .before .before .before .before .before .before .before .before .args .p in
+    rangeFault p ≡ unless (givenWithin 1000 2000000 (p .requirement)) (parameterOutOfRange 5)
+unfolding rangeFault
+requirement-decides c =
+    simp (
+      year-within (c .before .before .before .before .before .before .before),
+      cost-within (c .before .before .before .before .before),
+      offset-within (c .before .before),
+      outage-within c,
+    )
 
 -- ---- the needs
 
@@ -76,26 +91,13 @@ given-within-requires-4 : tie.Need-given-within-requires-4
 given-within-requires-4 c κs = search needs
 
 returns-5 : tie.Need-returns-5
-unfolding rangeFault
 returns-5 c =
-    simp (
-      year-within (c .before .before .before .before .before .before .before .before .before),
-      cost-within (c .before .before .before .before .before .before .before),
-      offset-within (c .before .before .before .before),
-      outage-within (c .before .before),
-      sym (c .before .given-within4 .ensures) ∙ not-true _ (c .if5 .taken),
-    )
+    sym (requirement-decides (c .before .before) ∙ unless-failed _ (c .before .given-within4 .ensures) (c .if5 .taken))
 
 returns-6 : tie.Need-returns-6
-unfolding rangeFault
 returns-6 c =
-    simp (
-      year-within (c .before .before .before .before .before .before .before .before .before),
-      cost-within (c .before .before .before .before .before .before .before),
-      offset-within (c .before .before .before .before),
-      outage-within (c .before .before),
-      sym (c .before .given-within4 .ensures) ∙ not-false _ (c .if5 .left),
-    )
+    sym (requirement-decides (c .before .before)
+    ∙ unless-held (parameterOutOfRange 5) (c .before .given-within4 .ensures) (c .if5 .left))
 
 pub parameter-fault-spec : {M : Type 1} → statement M
 parameter-fault-spec =
