@@ -1,11 +1,10 @@
 -- Code that leaves with `false` at the first of several tests that fails answers the conjunction of those tests.
 --
--- In order: a test that another function answered, which failed or held; a number under a bound; a number that was
--- read, at most another or equal to it;
--- `ways`, the set of these laws, with which `search` finds the way that led to a return; a loop over places, which leaves at the
--- first that fails: one more place, the way out of it, its end.
+-- In order: a test that another function answered, which failed or held; a number under a bound; a number that was read, at
+-- most another or equal to it; `ways`, the set of these laws, with which `search` finds the way that led to a return; a
+-- loop over places, which leaves at the first that fails: one more place, the way out, the end.
 -- Assumes nothing.
-use mathlib.Core.Path.{_≡_, refl, sym, ap, _∙_}
+use mathlib.Core.Path.{_≡_, sym, _∙_}
 use mathlib.Core.Bool.{Bool, true, false, not, _&&_}
 use Prim.Native.Nat.{ℕ, _+_, _≤_, _<_}
 use native.Mathlib.Numerals.{add-one}

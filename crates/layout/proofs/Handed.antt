@@ -1,5 +1,5 @@
--- What the reader of rows hands back: nothing of a refused book, nothing for a row that isn't there, and else the row's own
--- 32 bytes.
+-- What the reader of rows hands back: nothing of a refused book, nothing for a row that isn't there, and else the row's
+-- own 32 bytes.
 -- Assumes nothing.
 use mathlib.Core.Path.{_≡_, ap, _∙_}
 use mathlib.Core.List.{List, []}

@@ -17,7 +17,8 @@ use Rattle.values.specs.Head.{offersIn}
 use Rattle.values.specs.declared.Verdict.the-variants.{Passed}
 use Rattle.values.proofs.Firsts.{unless-passed}
 use Rattle.layout.specs.Blocks.{placeOf}
-use Rattle.layout.specs.Layout.{blocksFor, countFits, headMarksHold, headHolds, usedHolds, placeHolds, rowsHold, rpmb}
+use Rattle.layout.specs.Layout.{blocksFor, rpmb, countFits, headMarksHold, headHolds}
+use Rattle.layout.specs.Layout.{usedHolds, placeHolds, rowsHold}
 use Rattle.layout.specs.Form.{lengthFault}
 
 -- a length that is whole blocks, one at least, and no more than 41
@@ -38,7 +39,7 @@ length-holds b e =
     record {
       whole = eqb-true (length b % 512) 0 (and-left whole (least && most) all);
       least = leb-true 512 (length b) (and-left least most bounds);
-      most = leb-true (length b) 20992 (and-right least most bounds)
+      most = leb-true (length b) 20992 (and-right least most bounds);
     }
 
 -- a count that fits so many blocks
@@ -54,7 +55,7 @@ count-holds s blocks e =
     let fits : Bool = eqb blocks (blocksFor (offersIn s)) in
     record {
       most = leb-true (offersIn s) 600 (and-left most fits e);
-      fits = eqb-true blocks (blocksFor (offersIn s)) (and-right most fits e)
+      fits = eqb-true blocks (blocksFor (offersIn s)) (and-right most fits e);
     }
 
 pub head-holds : (s : List ℕ) (blocks : ℕ) → headHolds s blocks ≡ true → CountHolds blocks (offersIn s)

@@ -1,9 +1,9 @@
--- The parts that the code cuts, from a start to an end, are the blocks, places and rows of the definitions; and how long they
--- are.
+-- The parts that the code cuts, from a start to an end, are the blocks, places and rows of the definitions; and how long
+-- they are.
 --
 -- In order: a part cut from a start on; a block of a book, a place of a block, a row of a book; their lengths.
 -- Assumes nothing.
-use mathlib.Core.Path.{_≡_, refl, sym, ap, _∙_}
+use mathlib.Core.Path.{_≡_, ap, _∙_}
 use mathlib.Core.List.{List}
 use Prim.Native.Nat.{ℕ, _+_, _-_, _*_, _/_, _%_, _≤_, _<_}
 use native.Mathlib.Nat.{add-sub-cancel-left}

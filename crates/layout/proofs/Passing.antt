@@ -3,14 +3,14 @@
 -- In order: each of the three passed; the book's length, the number of its offers, and how they fit; where a row's block
 -- stands; that the row's own bytes are laid out as a used place.
 -- Assumes nothing.
-use mathlib.Core.Path.{_≡_, sym, ap, _∙_}
+use mathlib.Core.Path.{_≡_}
 use mathlib.Core.Bool.{true}
 use mathlib.Core.List.{List}
 use Prim.Native.Nat.{ℕ, _+_, _-_, _*_, _/_, _%_, _≤_, _<_}
 use native.Mathlib.Nat.{add-comm}
 use native.Mathlib.Omega.{arith}
 use lib.ListN.{length}
-use Rattle.values.specs.Refusals.{unless, andThen, first, wrongLayout}
+use Rattle.values.specs.Refusals.{unless, andThen, wrongLayout}
 use Rattle.values.specs.declared.Verdict.the-variants.{Passed}
 use Rattle.values.proofs.Firsts.{unless-passed, andThen-left, andThen-right, first-at}
 use Rattle.layout.specs.Blocks.{blockCount, blockOf, rowOf}
@@ -41,8 +41,9 @@ module _ (b : List ℕ) (passed : formFault b ≡ Passed) where
       → rowsHold ofrs (blockOf b (j + 1)) (j + 1) (rowsHere (offerCount b) (j + 1)) ≡ true
   unfolding layoutFault offerBlockFault
   rows-part j l =
+      let head = unless (headHolds (blockOf b 0) (blockCount b)) (wrongLayout 0) in
       unless-passed (rowsHold ofrs (blockOf b (j + 1)) (j + 1) (rowsHere (offerCount b) (j + 1))) 3 (j + 1)
-      (first-at (λ i. offerBlockFault b (i + 1)) (blockCount b - 1) j (andThen-right (unless (headHolds (blockOf b 0) (blockCount b)) (wrongLayout 0)) _ layout-part) l)
+      (first-at (λ i. offerBlockFault b (i + 1)) (blockCount b - 1) j (andThen-right head _ layout-part) l)
 
   -- the book has one block at least
   pub form-passed-length : 512 ≤ length b

@@ -1,6 +1,6 @@
 -- How a book is cut: blocks of 512 bytes, fifteen places of 32 bytes in each offer block, rows counted from 0.
 -- Assumes nothing.
-use Prim.Native.Nat.{ℕ, suc, _+_, _*_, _/_, _%_}
+use Prim.Native.Nat.{ℕ, _+_, _*_, _/_, _%_}
 use mathlib.Core.List.{List}
 use lib.ListN.{length, take, drop}
 

@@ -1,20 +1,20 @@
-// The first fault among refusals 1, 2 and 3: the length, the check of every block, the layout of every block. Each block is a
-// part of the book, lent to the test of it.
+// The first fault among refusals 1, 2 and 3: the length, the check of every block, the layout of every block. Each block is
+// a part of the book, lent to the test of it.
+use crate::MOST_BYTES;
+use crate::OFRS;
+use crate::head::head_holds;
+use crate::rows::rows_here;
+use crate::rows::rows_hold;
 use block::SIZE;
 use block::check::check_holds;
 use values::Verdict;
 use values::head::offers_in;
-use crate::head::head_holds;
-use crate::rows::{OFRS, rows_here, rows_hold};
 ghost use mathlib.Core.Path.{_≡_};
 ghost use Prim.Native.Nat.{_+_, _-_, _≤_};
 ghost use Rattle.values.specs.Refusals.{first};
 ghost use Rattle.layout.specs.Blocks.{blockCount};
 ghost use Rattle.layout.specs.Form.{lengthFault, checkFault, offerBlockFault, layoutFault, formFault};
 ghost use Rattle.layout.specs.Counted.{Counted};
-
-// The most bytes that a book has: block 0, and forty blocks for 600 offers.
-pub const LONGEST: usize = 20992;
 
 // 1: whole blocks, one at least, and no more bytes than the most.
 fn lengths(book: &[u8]) -> Verdict
@@ -27,7 +27,7 @@ fn lengths(book: &[u8]) -> Verdict
     if bytes < SIZE {
         return Verdict::Refused(1, 0);
     }
-    if LONGEST < bytes {
+    if MOST_BYTES < bytes {
         return Verdict::Refused(1, 0);
     }
     Verdict::Passed

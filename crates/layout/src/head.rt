@@ -1,14 +1,16 @@
 // The layout of block 0.
-use block::bytes::{u16_at, opens_with, is_blank};
-use values::head::offers_in;
+use crate::MOST_OFFERS;
+use crate::PLACES;
+use crate::RPMB;
 use crate::marks::absent_holds;
+use block::bytes::is_blank;
+use block::bytes::opens_with;
+use block::bytes::u16_at;
+use values::head::offers_in;
 ghost use mathlib.Core.Path.{_≡_};
 ghost use Prim.Native.Nat.{_≤_};
 ghost use lib.ListN.{length};
 ghost use Rattle.layout.specs.Layout.{countFits, headMarksHold, headHolds};
-
-// The four letters that open a book.
-pub const RPMB: [u8; 4] = *b"RPMB";
 
 // Whether the number of offers is at most 600 and fits the number of blocks.
 fn count_fits(s: &[u8], blocks: usize) -> bool
@@ -16,10 +18,10 @@ fn count_fits(s: &[u8], blocks: usize) -> bool
     ensures { λ r. ⌜ r ≡ countFits (now (s .entry)) blocks ⌝ }
 {
     let offers = offers_in(s);
-    if 600 < offers {
+    if MOST_OFFERS < offers {
         return false;
     }
-    blocks == 1 + (offers as usize + 14) / 15
+    blocks == 1 + (offers as usize + 14) / PLACES
 }
 
 // Whether the marks have no unused bit, and a value not given has zero bytes.

@@ -1,8 +1,11 @@
 // The reader of rows: an offer's own 32 bytes, a part of the book that is lent, and no copy.
+use crate::PLACE_SIZE;
+use crate::PLACES;
+use crate::PLACES_FROM;
+use crate::form::form;
 use block::SIZE;
 use values::Verdict;
 use values::head::offers_in;
-use crate::form::form;
 ghost use mathlib.Core.Path.{_≡_};
 ghost use Prim.Native.Nat.{_+_, _*_, _/_, _≤_, _<_};
 ghost use lib.ListN.{length};
@@ -22,10 +25,10 @@ pub fn row_of(book: &[u8], row: usize) -> &[u8]
     requires { ⌜ (1 + row / 15) * 512 + 512 ≤ length (now book) ⌝ }
     ensures { λ r. ⌜ (now r ≡ rowOf (now (book .entry)) row) × (length (now r) ≡ 32) ⌝ }
 {
-    let from = (1 + row / 15) * SIZE;
+    let from = (1 + row / PLACES) * SIZE;
     let block = &book[from..from + SIZE];
-    let at = 28 + row % 15 * 32;
-    &block[at..at + 32]
+    let at = PLACES_FROM + row % PLACES * PLACE_SIZE;
+    &block[at..at + PLACE_SIZE]
 }
 
 // An offer's own bytes; for a row that isn't there, or a book refused by 1 to 3, an empty part.

@@ -1,17 +1,18 @@
 // The layout of a block of rows.
-use block::bytes::{u16_at, opens_with, is_blank};
+use crate::PLACE_SIZE;
+use crate::PLACES;
+use crate::PLACES_FROM;
 use crate::marks::absent_holds;
+use block::bytes::is_blank;
+use block::bytes::opens_with;
+use block::bytes::u16_at;
 ghost use mathlib.Core.Path.{_≡_};
-ghost use mathlib.Core.Bool.{_&&_};
-ghost use Prim.Native.Nat.{ℕ, _+_, _-_, _*_, _≤_, _<_};
+ghost use Prim.Native.Nat.{_-_, _*_, _≤_, _<_};
 ghost use lib.ListN.{length};
 ghost use lib.Dec.{ltb};
 ghost use Rattle.laws.specs.Sum.{every};
 ghost use Rattle.layout.specs.Blocks.{placeOf};
 ghost use Rattle.layout.specs.Layout.{usedHolds, placeHolds, rowsHere, rowsHold};
-
-// The four letters that open an offer block.
-pub const OFRS: [u8; 4] = *b"OFRS";
 
 // Whether a used place has no unused mark or byte that is set, and a value not given has zero bytes.
 fn used_holds(p: &[u8]) -> bool
@@ -39,7 +40,7 @@ fn place_holds(used: bool, p: &[u8]) -> bool
     if used {
         used_holds(p)
     } else {
-        is_blank(p, 0, 32)
+        is_blank(p, 0, PLACE_SIZE)
     }
 }
 
@@ -48,9 +49,9 @@ fn places_hold(s: &[u8], here: usize) -> bool
     requires { ⌜ 512 ≤ length (now s) ⌝ }
     ensures { λ r. ⌜ r ≡ every (λ i. placeHolds (ltb i here) (placeOf (now (s .entry)) i)) 15 ⌝ }
 {
-    for i in 0..15 {
-        let at = 28 + i * 32;
-        if !place_holds(i < here, &s[at..at + 32]) {
+    for i in 0..PLACES {
+        let at = PLACES_FROM + i * PLACE_SIZE;
+        if !place_holds(i < here, &s[at..at + PLACE_SIZE]) {
             return false;
         }
     }
@@ -62,8 +63,8 @@ pub fn rows_here(rows: usize, k: usize) -> usize
     requires { ⌜ (0 < k) × ((k - 1) * 15 ≤ rows) ⌝ }
     ensures { λ r. ⌜ r ≡ rowsHere rows k ⌝ }
 {
-    let left = rows - (k - 1) * 15;
-    if left < 15 { left } else { 15 }
+    let left = rows - (k - 1) * PLACES;
+    if left < PLACES { left } else { PLACES }
 }
 
 // Whether the part is laid out as block number k, opened by these letters, with so many rows in it.

@@ -1,7 +1,7 @@
 -- Laws of `firstFailing`: the first of n places that fails a test.
 --
--- In order: none fails; a place that fails after places that pass; one of the two is the case; it is at most n; one more
--- place that passes; tests that agree.
+-- In order: none fails; a place that fails after places that pass; one more place that passes; one of the two is the case;
+-- the answer is at most n; tests that agree.
 -- Assumes nothing.
 use mathlib.Core.Path.{_≡_, refl, sym, ap₂, _∙_}
 use mathlib.Core.Bool.{Bool, true, false, cond, _&&_}
@@ -11,7 +11,7 @@ use native.Mathlib.Numerals.{add-one}
 use native.Mathlib.Omega.{arith}
 use Rattle.laws.specs.Sum.{every}
 use Rattle.laws.proofs.Cases.{by-order, by-test, cond-true, cond-false, and-left, and-right, and-true}
-use Rattle.laws.proofs.Everys.{every-zero, every-suc, every-at, every-false}
+use Rattle.laws.proofs.Everys.{every-zero, every-suc, every-false}
 use Rattle.limits.specs.Repeats.{firstFailing}
 
 failing-zero : (test : ℕ → Bool) → firstFailing test 0 ≡ 0
@@ -32,14 +32,25 @@ failing-none test (suc n) e =
     ∙ cond-true _ _ _ (and-left (every test n) (test n) both)
     ∙ cond-true _ _ _ (and-right (every test n) (test n) both)
 
+-- the last place fails, where every place before it passes
+failing-last : (test : ℕ → Bool) (n : ℕ) → every test n ≡ true → test n ≡ false → firstFailing test (suc n) ≡ n
+failing-last test n e f = failing-suc test n ∙ cond-true _ _ _ e ∙ cond-false _ _ _ f
+
 -- a place that fails, where every place before it passes
 pub failing-at : (test : ℕ → Bool) (n i : ℕ) → i < n → every test i ≡ true → test i ≡ false → firstFailing test n ≡ i
 failing-at test zero i l e f = absurd (not-suc-le-zero l)
 failing-at test (suc n) i l e f =
     by-order n i
-    (λ h. let same : i ≡ n = omega arith in
-      failing-suc test n ∙ cond-true _ _ _ (rw same at e) ∙ cond-false _ _ _ (rw same at f) ∙ sym same)
+    (λ h. let same : i ≡ n = omega arith in failing-last test n (rw same at e) (rw same at f) ∙ sym same)
     (λ h. failing-suc test n ∙ cond-false _ _ _ (every-false test n i h f) ∙ failing-at test n i h e f)
+
+-- one more place that passes
+every-last : (test : ℕ → Bool) (n : ℕ) → every test n ≡ true → test n ≡ true → every test (suc n) ≡ true
+every-last test n e t = every-suc test n ∙ and-true (every test n) (test n) e t
+
+-- the same as the code counts
+pub every-more : (test : ℕ → Bool) (n : ℕ) → every test n ≡ true → test n ≡ true → every test (n + 1) ≡ true
+every-more test n e t = rw add-one (every-last test n e t)
 
 -- every place passes, or one fails after places that pass
 pub by-failing {ℓ} : {X : Type ℓ} (test : ℕ → Bool) (n : ℕ)
@@ -47,9 +58,7 @@ pub by-failing {ℓ} : {X : Type ℓ} (test : ℕ → Bool) (n : ℕ)
 by-failing test zero f g = f (every-zero test)
 by-failing test (suc n) f g =
     by-failing test n
-    (λ e. by-test (test n)
-      (λ t. f (every-suc test n ∙ and-true (every test n) (test n) e t))
-      (λ t. g n (omega arith) e t))
+    (λ e. by-test (test n) (λ t. f (every-last test n e t)) (λ t. g n (omega arith) e t))
     (λ i l e t. g i (omega arith) e t)
 
 -- it is among the n places, or n
@@ -58,10 +67,6 @@ failing-le test n =
     by-failing test n
     (λ e. omega (arith, failing-none test n e))
     (λ i l e t. omega (arith, failing-at test n i l e t))
-
--- one more place that passes, as the code counts
-pub every-more : (test : ℕ → Bool) (n : ℕ) → every test n ≡ true → test n ≡ true → every test (n + 1) ≡ true
-every-more test n e t = rw add-one (every-suc test n ∙ and-true (every test n) (test n) e t)
 
 -- tests that agree at each of the n places
 pub every-ext : (test other : ℕ → Bool) (n : ℕ) → ((i : ℕ) → i < n → test i ≡ other i) → every test n ≡ every other n
@@ -73,8 +78,7 @@ every-ext test other (suc n) h =
 
 pub failing-ext : (test other : ℕ → Bool) (n : ℕ)
     → ((i : ℕ) → i < n → test i ≡ other i) → firstFailing test n ≡ firstFailing other n
-failing-ext test other n h =
-    by-failing test n
-    (λ e. failing-none test n e ∙ sym (failing-none other n (sym (every-ext test other n h) ∙ e)))
-    (λ i l e t. failing-at test n i l e t
-      ∙ sym (failing-at other n i l (sym (every-ext test other i (λ k m. h k (omega arith))) ∙ e) (sym (h i l) ∙ t)))
+failing-ext test other zero h = failing-zero test ∙ sym (failing-zero other)
+failing-ext test other (suc n) h =
+    let before : (i : ℕ) → i < n → test i ≡ other i = λ i l. h i (omega arith) in
+    rw (failing-suc test n, failing-suc other n, every-ext test other n before, h n (omega arith), failing-ext test other n before)

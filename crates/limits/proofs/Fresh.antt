@@ -3,7 +3,7 @@
 -- In order: two rows that differ, a row that is fresh, a row that is not; the search that found none, and the one that found a
 -- row; its answer is at most n; resource numbers that agree.
 -- Assumes nothing.
-use mathlib.Core.Path.{_≡_, sym, ap, _∙_}
+use mathlib.Core.Path.{_≡_, sym, ap}
 use mathlib.Core.Bool.{true, false, not}
 use Prim.Native.Nat.{ℕ, _≤_, _<_}
 use native.Mathlib.Omega.{arith}

@@ -5,3 +5,5 @@ pub mod Failing
 pub mod Fresh
 pub mod Lowest
 pub mod Rows
+pub mod Passing
+pub mod PassingRows

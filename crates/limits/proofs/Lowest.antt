@@ -15,6 +15,11 @@ by-verdict {ℓ} : {X : Type ℓ} (v : Verdict)
 by-verdict Passed f g = f refl
 by-verdict (Refused number place) f g = g number place refl
 
+-- one more test that passes
+first-last : (test : ℕ → Verdict) (n : ℕ) → first test n ≡ Passed → test n ≡ Passed → first test (suc n) ≡ Passed
+first-last test n e t = first-suc test n ∙ andThen-next (first test n) (test n) e ∙ t
+
+-- none of n tests refuses, or one does after tests that pass
 pub by-first {ℓ} : {X : Type ℓ} (test : ℕ → Verdict) (n : ℕ)
     → (first test n ≡ Passed → X)
     → ((i number place : ℕ) → i < n → first test i ≡ Passed → test i ≡ Refused number place → X)
@@ -22,9 +27,7 @@ pub by-first {ℓ} : {X : Type ℓ} (test : ℕ → Verdict) (n : ℕ)
 by-first test zero f g = f (first-zero test)
 by-first test (suc n) f g =
     by-first test n
-    (λ e. by-verdict (test n)
-      (λ t. f (first-suc test n ∙ andThen-next (first test n) (test n) e ∙ t))
-      (λ number place t. g n number place (omega arith) e t))
+    (λ e. by-verdict (test n) (λ t. f (first-last test n e t)) (λ number place t. g n number place (omega arith) e t))
     (λ i number place l e t. g i number place (omega arith) e t)
 
 -- tests that pass all pass where there are fewer of them

@@ -3,7 +3,7 @@
 -- In order: when two verdicts are the same; what the trailing zeros of the inverted marks say, tested at all 256 marks; the
 -- marks of a block 0 and its parameters.
 -- Assumes nothing.
-use mathlib.Core.Path.{_≡_, refl, ap, ap₂}
+use mathlib.Core.Path.{_≡_, refl, ap₂}
 use mathlib.Core.Bool.{Bool, true, false, cond, _&&_, false≢true}
 use mathlib.Core.List.{List}
 use Prim.Native.Nat.{ℕ, _+_, _-_, _<_}

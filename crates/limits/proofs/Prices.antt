@@ -30,7 +30,7 @@ offerFault-sound o row e = offerFault-tested false o row ∙ simp e
 pub offerFault-given : (pricesNeeded : Bool) (o : Offer) (row number : ℕ)
     → o .price ≡ Given number → offerFault pricesNeeded o row ≡ unless (offerInRange o) (offerOutOfRange row)
 offerFault-given true o row number e = offerFault-tested true o row ∙ simp e
-offerFault-given false o row number e = offerFault-tested false o row
+offerFault-given false o row number e = offerFault-tested false o row ∙ simp e
 
 -- A missing cost is refused first, whatever the other parameters are.
 pub missingFault-cost : (p : Parameters) → p .cost ≡ Missing → missingFault p ≡ missingParameter 2

@@ -1,6 +1,7 @@
 -- The rows' first fault is found in two passes: 6 and 7 by row, and then 8 among the rows before the one refused.
 --
--- In order: the second pass, as the code makes it; rows that pass, repeat or are refused; the first fault of n rows.
+-- In order: the second pass, as the code makes it; rows that pass or repeat; how far the values pass; the first fault of n
+-- rows.
 -- Assumes nothing.
 use mathlib.Core.Path.{_≡_, refl, sym, _∙_}
 use mathlib.Core.Bool.{Bool, true, false}
@@ -26,7 +27,6 @@ use Rattle.limits.proofs.Lowest.{by-first, first-fewer}
 
 module _ (values : Verdict) (resources : ℕ → ℕ) (n limit repeat : ℕ)
     (before : limit ≡ rowsBefore values n) (searched : repeat ≡ firstRepeat resources limit) where
-
   pub withRepeats-repeat : repeat < limit → repeatedResource repeat ≡ withRepeats values resources n
   unfolding withRepeats
   withRepeats-repeat l = rw (← before, ← searched, lt-ltb repeat limit l)
@@ -35,7 +35,7 @@ module _ (values : Verdict) (resources : ℕ → ℕ) (n limit repeat : ℕ)
   unfolding withRepeats
   withRepeats-none l = rw (← before, ← searched, le-ltb repeat limit l)
 
--- ---- rows that pass, repeat or are refused
+-- ---- rows that pass or repeat
 
 module _ (pricesNeeded : Bool) (offers : ℕ → Offer) where
   abbrev valuesTest : ℕ → Verdict
@@ -47,13 +47,12 @@ module _ (pricesNeeded : Bool) (offers : ℕ → Offer) where
   abbrev rowTest : ℕ → Verdict
   rowTest row = andThen (valuesTest row) (repeatFault resource row)
 
-  rows-pass : (n : ℕ) → first valuesTest n ≡ Passed → every (fresh resource) n ≡ true → first rowTest n ≡ Passed
+  row-pass : (row : ℕ) → valuesTest row ≡ Passed → fresh resource row ≡ true → rowTest row ≡ valuesTest row
   unfolding repeatFault
-  rows-pass n e f =
-      first-ext rowTest valuesTest n
-      (λ i l. let passed : valuesTest i ≡ Passed = first-at valuesTest n i e l in
-        andThen-next (valuesTest i) _ passed ∙ unless-true (fresh resource i) _ (every-at _ n i f l) ∙ sym passed)
-      ∙ e
+  row-pass row e f = andThen-next (valuesTest row) _ e ∙ unless-true (fresh resource row) _ f ∙ sym e
+
+  rows-pass : (n : ℕ) → first valuesTest n ≡ Passed → every (fresh resource) n ≡ true → first rowTest n ≡ Passed
+  rows-pass n e f = first-ext rowTest valuesTest n (λ row l. row-pass row (first-at valuesTest n row e l) (every-at _ n row f l)) ∙ e
 
   -- a repeat among rows whose values pass
   rows-repeat : (n limit row : ℕ)
@@ -69,47 +68,67 @@ module _ (pricesNeeded : Bool) (offers : ℕ → Offer) where
       (rows-pass row (first-fewer valuesTest limit row (omega arith) e) f)
       (andThen-next (valuesTest row) _ (first-at valuesTest limit row e k) ∙ unless-false (fresh resource row) _ t)
 
+  -- ---- how far the values pass
+
+  abbrev limitOf : ℕ → ℕ
+  limitOf n = rowsBefore (first valuesTest n) n
+
   -- the values pass up to a limit, and where no row before it repeats they decide
   record Limit (n limit : ℕ) : Type 0 where
     within : limit ≤ n
     passed : first valuesTest limit ≡ Passed
     decide : every (fresh resource) limit ≡ true → first rowTest n ≡ first valuesTest n
 
-  rows-limit : (n : ℕ) → Limit n (rowsBefore (first valuesTest n) n)
-  rows-limit n =
-      by-first valuesTest n
-      (λ e. rw e record { within = omega arith; passed = e; decide = λ f. rows-pass n e f ∙ sym e })
-      (λ row number place l e t.
-        let refused : first valuesTest n ≡ Refused number place = first-refused valuesTest n row number place l e t in
-        rw (refused, offerFault-row pricesNeeded (offers row) row number place t) record {
-          within = omega arith;
-          passed = e;
-          decide = λ f.
-            first-refused rowTest n row number place l (rows-pass row e f) (andThen-refused (valuesTest row) _ number place t)
-            ∙ sym refused
-        })
+  limit-passed : (n : ℕ) → first valuesTest n ≡ Passed → Limit n (limitOf n)
+  limit-passed n e = rw e record { within = omega arith; passed = e; decide = λ f. rows-pass n e f ∙ sym e }
 
--- ---- the first fault of n rows
+  limit-refused : (n row number place : ℕ)
+      → row < n → first valuesTest row ≡ Passed → valuesTest row ≡ Refused number place → Limit n (limitOf n)
+  limit-refused n row number place l e t =
+      let values = first-refused valuesTest n row number place l e t in
+      let both = andThen-refused (valuesTest row) (repeatFault resource row) number place t in
+      rw (values, offerFault-row pricesNeeded (offers row) row number place t) record {
+        within = omega arith;
+        passed = e;
+        decide = λ f. first-refused rowTest n row number place l (rows-pass row e f) both ∙ sym values;
+      }
+
+  rows-limit : (n : ℕ) → Limit n (limitOf n)
+  rows-limit n = by-first valuesTest n (limit-passed n) (limit-refused n)
 
   -- The rows before the one that is refused by 6 or 7 are among the n.
   pub rowsBefore-le : (n : ℕ) → rowsBefore (valuesFault pricesNeeded offers n) n ≤ n
   unfolding valuesFault
   rowsBefore-le n = rows-limit n .within
 
+  -- ---- the first fault of n rows
+
+  module _ (resources : ℕ → ℕ) (n : ℕ) (agree : (row : ℕ) → row < limitOf n → resources row ≡ resource row) where
+    own : firstRepeat resource (limitOf n) ≡ firstRepeat resources (limitOf n)
+    own = sym (repeat-ext resources resource (limitOf n) agree)
+
+    passes-none : every (fresh resource) (limitOf n) ≡ true
+        → first rowTest n ≡ withRepeats (first valuesTest n) resources n
+    passes-none f =
+        let searched = repeat-none resource (limitOf n) (limitOf n) (omega arith) (omega arith) f ∙ own in
+        rows-limit n .decide f
+        ∙ withRepeats-none (first valuesTest n) resources n (limitOf n) (limitOf n) refl searched (omega arith)
+
+    passes-repeat : (row : ℕ)
+        → row < limitOf n
+        → every (fresh resource) row ≡ true
+        → fresh resource row ≡ false
+        → first rowTest n ≡ withRepeats (first valuesTest n) resources n
+    passes-repeat row l f t =
+        let searched = repeat-at resource (limitOf n) row l f t ∙ own in
+        rows-repeat n (limitOf n) row (rows-limit n .within) (rows-limit n .passed) l f t
+        ∙ withRepeats-repeat (first valuesTest n) resources n (limitOf n) row refl searched l
+
   -- The first fault of n rows is the first by 6 or 7, unless a resource number repeats in a row before it. The resource numbers
-  -- may be read from anywhere, as long as those rows have their own.
+  -- may be read from anywhere that agrees with those rows.
   pub rowsFault-passes : (resources : ℕ → ℕ) (n : ℕ)
       → ((row : ℕ) → row < rowsBefore (valuesFault pricesNeeded offers n) n → resources row ≡ offers row .resource)
       → rowsFault pricesNeeded offers n ≡ withRepeats (valuesFault pricesNeeded offers n) resources n
   unfolding rowsFault valuesFault
   rowsFault-passes resources n agree =
-      let values = first valuesTest n in
-      let limit = rowsBefore values n in
-      let own : firstRepeat resource limit ≡ firstRepeat resources limit = sym (repeat-ext resources resource limit agree) in
-      by-failing (fresh resource) limit
-      (λ f. rows-limit n .decide f
-        ∙ withRepeats-none values resources n limit limit refl
-        (repeat-none resource limit limit (omega arith) (omega arith) f ∙ own)
-        (omega arith))
-      (λ row l f t. rows-repeat n limit row (rows-limit n .within) (rows-limit n .passed) l f t
-        ∙ withRepeats-repeat values resources n limit row refl (repeat-at resource limit row l f t ∙ own) l)
+      by-failing (fresh resource) (limitOf n) (passes-none resources n agree) (passes-repeat resources n agree)

@@ -2,8 +2,9 @@
 -- refusal names.
 -- Assumes nothing.
 use mathlib.Core.Path.{_≡_, refl, sym, _∙_}
-use mathlib.Core.Bool.{Bool, true, false, cond, not, _&&_}
+use mathlib.Core.Bool.{Bool, true, false, cond, not, _||_}
 use Prim.Native.Nat.{ℕ}
+use borrow.Author.Tests.{not-true, not-false}
 use Rattle.values.specs.Refusals.{noPrice, offerOutOfRange, unless, andThen}
 use Rattle.values.specs.declared.Value.{Value}
 use Rattle.values.specs.declared.Value.the-variants.{Given, Missing}
@@ -12,17 +13,34 @@ use Rattle.values.specs.declared.place.Offer.{Offer}
 use Rattle.limits.specs.Offers.{isGiven, priceFault, offerInRange, offerFault}
 
 priceFault-tested : (pricesNeeded : Bool) (price : Value) (row : ℕ)
-    → cond pricesNeeded (priceFault price row) Passed ≡ unless (not (pricesNeeded && not (isGiven price))) (noPrice row)
+    → cond pricesNeeded (priceFault price row) Passed ≡ unless (isGiven price || not pricesNeeded) (noPrice row)
 priceFault-tested true (Given number) row = refl
 priceFault-tested true Missing row = refl
-priceFault-tested false price row = refl
+priceFault-tested false (Given number) row = refl
+priceFault-tested false Missing row = refl
 
 -- An offer is refused by one test of its price and one of its ranges.
 pub offerFault-tested : (pricesNeeded : Bool) (o : Offer) (row : ℕ)
     → offerFault pricesNeeded o row
-    ≡ andThen (unless (not (pricesNeeded && not (isGiven (o .price)))) (noPrice row)) (unless (offerInRange o) (offerOutOfRange row))
+    ≡ andThen (unless (isGiven (o .price) || not pricesNeeded) (noPrice row)) (unless (offerInRange o) (offerOutOfRange row))
 unfolding offerFault
 offerFault-tested pricesNeeded o row = rw priceFault-tested
+
+-- what each way out of the code says, by what its tests answered
+module _ (pricesNeeded : Bool) (o : Offer) (row : ℕ) (given ranged : Bool)
+    (g : given ≡ isGiven (o .price)) (r : ranged ≡ offerInRange o) where
+  pub offerFault-unpriced : not (given || not pricesNeeded) ≡ true → noPrice row ≡ offerFault pricesNeeded o row
+  offerFault-unpriced p = rw (offerFault-tested, ← g, not-true (given || not pricesNeeded) p)
+
+  pub offerFault-outside : not (given || not pricesNeeded) ≡ false
+      → not ranged ≡ true → offerOutOfRange row ≡ offerFault pricesNeeded o row
+  offerFault-outside p q =
+      rw (offerFault-tested, ← g, not-false (given || not pricesNeeded) p, ← r, not-true ranged q)
+
+  pub offerFault-passed : not (given || not pricesNeeded) ≡ false
+      → not ranged ≡ false → Passed ≡ offerFault pricesNeeded o row
+  offerFault-passed p q =
+      rw (offerFault-tested, ← g, not-false (given || not pricesNeeded) p, ← r, not-false ranged q)
 
 tested-row : (s t : Bool) (row number place : ℕ)
     → andThen (unless s (noPrice row)) (unless t (offerOutOfRange row)) ≡ Refused number place → place ≡ row
@@ -34,5 +52,5 @@ tested-row false t row number place e = cc
 pub offerFault-row : (pricesNeeded : Bool) (o : Offer) (row number place : ℕ)
     → offerFault pricesNeeded o row ≡ Refused number place → place ≡ row
 offerFault-row pricesNeeded o row number place e =
-    tested-row (not (pricesNeeded && not (isGiven (o .price)))) (offerInRange o) row number place
+    tested-row (isGiven (o .price) || not pricesNeeded) (offerInRange o) row number place
     (sym (offerFault-tested pricesNeeded o row) ∙ e)

@@ -1,7 +1,9 @@
 // Refusals 6 and 7: an offer with no price, or with a value out of range.
-use crate::parameters::{given_within, within};
+use crate::parameters::given_within;
+use crate::parameters::within;
+use values::Value;
+use values::Verdict;
 use values::place::Offer;
-use values::{Value, Verdict};
 ghost use mathlib.Core.Path.{_≡_};
 ghost use Rattle.limits.specs.Offers.{isGiven, offerInRange, offerFault};
 
@@ -33,12 +35,13 @@ pub fn offer_fault(needed: bool, o: Offer, row: u32) -> Verdict
     ensures { λ r. ⌜ r ≡ offerFault needed o row ⌝ }
 {
     let price = o.price;
-    if needed & !is_given(price) {
+    let priced = is_given(price) | !needed;
+    let ranged = offer_in_range(o);
+    if !priced {
         return Verdict::Refused(6, row);
     }
-    if offer_in_range(o) {
-        Verdict::Passed
-    } else {
-        Verdict::Refused(7, row)
+    if !ranged {
+        return Verdict::Refused(7, row);
     }
+    Verdict::Passed
 }

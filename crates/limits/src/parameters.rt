@@ -1,6 +1,7 @@
 // Refusals 4 and 5: a parameter that is missing, or out of range.
+use values::Value;
+use values::Verdict;
 use values::head::Parameters;
-use values::{Value, Verdict};
 ghost use mathlib.Core.Path.{_≡_};
 ghost use Prim.Native.Nat.{_≤_};
 ghost use lib.ListN.{length};
@@ -8,7 +9,7 @@ ghost use Rattle.values.specs.Head.{parametersOf};
 ghost use Rattle.limits.specs.Parameters.{within, givenWithin, offsetMost, missingMarks, missingFault, rangeFault};
 
 // 4 by the marks: trailing zeros of the inverted marks, plus two, give the first missing field.
-fn missing(marks: u8) -> Verdict
+pub fn missing(marks: u8) -> Verdict
     ensures { λ r. ⌜ r ≡ missingMarks marks ⌝ }
 {
     let gap = u8::trailing_zeros(!marks);

@@ -1,2 +1,4 @@
 pub mod Auction
+pub mod Sale
 pub mod Answer
+pub mod Payment

@@ -1,4 +1,8 @@
 // The library that callers see: a book of bytes goes in; cleared megawatts, the price and the payments come out.
+pub mod call;
+pub mod payment;
+pub mod sale;
+
 use market::price::ClearingPrice;
 
 // What a book clears. Quantities are tenths of a megawatt, amounts mills.

@@ -1,1 +1,3 @@
 pub mod Contest
+pub mod Sieve
+pub mod Award

@@ -1,8 +1,8 @@
 -- Laws of tests that follow one another: `unless`, `andThen`, `first`.
 --
--- In order: a test that holds, and one that doesn't; what `unless` says of its test, and of a test that the code answered; two
--- tests, of which the first passed or refused, and both passed; a row of tests: none, one more, each passed, the earliest
--- refusal, equal tests.
+-- In order: a test that holds, and one that doesn't; what `unless` says of its test, and of a test that the code answered;
+-- two tests, of which the first passed or refused, and both passed; a row of tests: none, one more, each passed, the
+-- earliest refusal, equal tests.
 -- Assumes nothing.
 use mathlib.Core.Path.{_≡_, refl, sym, ap₂, _∙_}
 use mathlib.Core.Bool.{Bool, true, false, not}

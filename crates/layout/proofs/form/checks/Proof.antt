@@ -51,8 +51,8 @@ cast-t12 c = search needs
 
 -- what the call ensures, of the block of the definition
 as-block : (c : tie.After-check-holds Inv-loop μ-loop) →
-    c .check-holds .result
-    ≡ checkHolds (blockOf (c .before .before .before .before .before .args .book .now) (c .before .before .before .loop .k))
+    let book = c .before .before .before .before .before .args .book .now in
+    c .check-holds .result ≡ checkHolds (blockOf book (c .before .before .before .loop .k))
 as-block c = c .check-holds .ensures ∙ ap checkHolds (block-part _ _)
 
 returns : tie.Need-returns Inv-loop μ-loop
@@ -70,9 +70,12 @@ loop-less : tie.Need-loop-less Inv-loop μ-loop
 loop-less c = search needs
 
 loop-again : tie.Need-loop-again Inv-loop μ-loop
-loop-again c =
-    (search needs,
-    first-on _ _ (c .before .before .before .before .loop .inv .1) (unless-held _ (as-block (c .before)) (c .if1 .left)))
+loop-again c = (
+  search needs,
+  first-on _ _
+      (c .before .before .before .before .loop .inv .1)
+      (unless-held _ (as-block (c .before)) (c .if1 .left)),
+)
 
 returns-2 : tie.Need-returns-2 Inv-loop μ-loop
 unfolding checkFault

@@ -57,7 +57,7 @@ offer-blocks-requires c κs =
       whole = search needs;
       stated = search needs;
       most = omega (arith, n);
-      fits = omega (arith, n)
+      fits = omega (arith, n);
     }
 
 returns-2 : tie.Need-returns-2

@@ -1,4 +1,4 @@
--- `offer_blocks` finds the first offer block whose layout is wrong. The loop's invariant: those passed were laid out right.
+-- `offer_blocks` finds the first offer block whose layout is wrong. The loop's invariant: those passed had right ones.
 -- Assumes nothing.
 use mathlib.Core.Path.{_≡_, sym, ap, _∙_}
 use Prim.Native.Nat.{_≤_, _+_, _-_}
@@ -56,10 +56,13 @@ cast-t18 c = search needs
 
 -- what the call ensures, of the block of the definition
 as-block : (c : tie.After-rows-hold Inv-loop μ-loop) →
-    c .rows-hold .result
-    ≡ rowsHold ofrs (blockOf (c .before .before .before .before .before .before .before .args .book .now) (c .before .before .before .before .before .loop .j + 1)) (c .before .before .before .before .before .loop .j + 1)
-    (rowsHere (offerCount (c .before .before .before .before .before .before .before .args .book .now)) (c .before .before .before .before .before .loop .j + 1))
-as-block c = c .rows-hold .ensures ∙ cc (block-part (c .before .before .before .before .before .before .before .args .book .now) (c .before .before .before .before .before .loop .j + 1))
+    let book = c .before .before .before .before .before .before .before .args .book .now in
+    let k = c .before .before .before .before .before .loop .j + 1 in
+    c .rows-hold .result ≡ rowsHold ofrs (blockOf book k) k (rowsHere (offerCount book) k)
+as-block c =
+    let book = c .before .before .before .before .before .before .before .args .book .now in
+    let k = c .before .before .before .before .before .loop .j + 1 in
+    cc (block-part book k)
 
 returns : tie.Need-returns Inv-loop μ-loop
 unfolding offerBlockFault
@@ -78,9 +81,12 @@ loop-less c = falls _ _ (c .before .before .before .before .before .loop-test .t
 
 loop-again : tie.Need-loop-again Inv-loop μ-loop
 unfolding offerBlockFault
-loop-again c =
-    (search needs,
-    first-on _ _ (c .before .before .before .before .before .before .loop .inv .1) (unless-held _ (as-block (c .before)) (c .if1 .left)))
+loop-again c = (
+  search needs,
+  first-on _ _
+      (c .before .before .before .before .before .before .loop .inv .1)
+      (unless-held _ (as-block (c .before)) (c .if1 .left)),
+)
 
 returns-2 : tie.Need-returns-2 Inv-loop μ-loop
 returns-2 c = sym (c .before .loop .inv .1) ∙ ap (first _) (omega arith)

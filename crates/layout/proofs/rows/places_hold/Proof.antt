@@ -50,9 +50,9 @@ place-holds-requires c κs = search needs
 
 -- what the call ensures, of the place of the definition
 as-place : (c : tie.After-place-holds Inv-loop μ-loop) →
-    c .place-holds .result
-    ≡ placeHolds (ltb (c .before .before .before .loop .i) (c .before .before .before .before .before .args .here))
-    (placeOf (c .before .before .before .before .before .args .s .now) (c .before .before .before .loop .i))
+    let args = c .before .before .before .before .before .args in
+    let i = c .before .before .before .loop .i in
+    c .place-holds .result ≡ placeHolds (ltb i (args .here)) (placeOf (args .s .now) i)
 as-place c = c .place-holds .ensures ∙ ap (placeHolds _) (place-part _ _)
 
 returns : tie.Need-returns Inv-loop μ-loop
@@ -65,7 +65,10 @@ loop-less : tie.Need-loop-less Inv-loop μ-loop
 loop-less c = search needs
 
 loop-again : tie.Need-loop-again Inv-loop μ-loop
-loop-again c = (search needs, place-held _ _ (c .before .before .before .before .loop .inv .1) (as-place (c .before)) (c .if1 .left))
+loop-again c = (
+  search needs,
+  place-held _ _ (c .before .before .before .before .loop .inv .1) (as-place (c .before)) (c .if1 .left),
+)
 
 returns-2 : tie.Need-returns-2 Inv-loop μ-loop
 returns-2 c = places-held _ (c .before .loop .inv .1) (omega arith)

@@ -1,7 +1,7 @@
 -- `used_holds` meets its contract: it leaves at the first test that fails.
 -- Assumes nothing.
 use borrow.Author.Needs.{needs}
-use Rattle.laws.proofs.Ways.{ways, answer-failed, answer-held, under-failed, under-held, same-failed, same-held}
+use Rattle.laws.proofs.Ways.{ways}
 use Rattle.values.specs.Values.{marked}
 use Rattle.layout.specs.Layout.{usedHolds}
 use Rattle.layout.proofs.rows.used_holds.Statement.{statement}

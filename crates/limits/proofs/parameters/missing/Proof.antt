@@ -1,6 +1,6 @@
 -- `missing` gives the first missing field by the marks: a byte's inverse is what is left of 255.
 -- Assumes nothing.
-use mathlib.Core.Path.{_≡_, _∙_, sym}
+use mathlib.Core.Path.{_∙_, sym}
 use native.Mathlib.Omega.{arith}
 use borrow.Author.Tests.{lt-ltb, le-ltb}
 use Rattle.laws.proofs.Cases.{cond-true, cond-false}

@@ -1,11 +1,12 @@
 -- `parameter_fault` is the first field whose value is given and out of range: what the tests before a way out say picks the
 -- field.
 -- Assumes nothing.
-use mathlib.Core.Path.{_≡_, sym, ap, _∙_}
-use mathlib.Core.Bool.{Bool, true, false}
-use Prim.Native.Nat.{ℕ}
+use mathlib.Core.Path.{_≡_, sym, _∙_}
+use mathlib.Core.Bool.{true}
 use borrow.Author.Needs.{needs}
 use borrow.Author.Tests.{not-true, not-false}
+use Rattle.values.specs.Refusals.{parameterOutOfRange, unless}
+use Rattle.values.proofs.Firsts.{unless-held, unless-failed}
 use Rattle.limits.specs.Parameters.{within, givenWithin, offsetMost, rangeFault}
 use Rattle.limits.proofs.parameters.parameter_fault.Statement.{statement}
 use Rattle.limits.proofs.parameters.parameter_fault.Tie as tie
@@ -19,12 +20,27 @@ cost-within : (c : tie.Else2) → givenWithin 1 1000000 (c .before .before .befo
 cost-within c = sym (c .before .given-within .ensures) ∙ not-false _ (c .if2 .left)
 
 offset-within : (c : tie.Else3)
-    → givenWithin 0 (offsetMost (c .before .before .before .before .before .before .before .args .p .cost)) (c .before .before .before .before .before .before .before .args .p .offset)
-    ≡ true
+    → let p = c .before .before .before .before .before .before .before .args .p in
+    givenWithin 0 (offsetMost (p .cost)) (p .offset) ≡ true
 offset-within c = cc (not-false (c .before .given-within2 .result) (c .if3 .left))
 
-outage-within : (c : tie.Else4) → givenWithin 0 5000 (c .before .before .before .before .before .before .before .before .before .args .p .outage) ≡ true
+outage-within : (c : tie.Else4)
+    → let p = c .before .before .before .before .before .before .before .before .before .args .p in
+    givenWithin 0 5000 (p .outage) ≡ true
 outage-within c = sym (c .before .given-within3 .ensures) ∙ not-false _ (c .if4 .left)
+
+-- past the other fields the requirement's test decides
+requirement-decides : (c : tie.Else4)
+    → let p = c .before .before .before .before .before .before .before .before .before .args .p in
+    rangeFault p ≡ unless (givenWithin 1000 2000000 (p .requirement)) (parameterOutOfRange 5)
+unfolding rangeFault
+requirement-decides c =
+    simp (
+      year-within (c .before .before .before .before .before .before .before),
+      cost-within (c .before .before .before .before .before),
+      offset-within (c .before .before),
+      outage-within c,
+    )
 
 -- ---- the needs
 
@@ -75,26 +91,13 @@ given-within-requires-4 : tie.Need-given-within-requires-4
 given-within-requires-4 c κs = search needs
 
 returns-5 : tie.Need-returns-5
-unfolding rangeFault
 returns-5 c =
-    simp (
-      year-within (c .before .before .before .before .before .before .before .before .before),
-      cost-within (c .before .before .before .before .before .before .before),
-      offset-within (c .before .before .before .before),
-      outage-within (c .before .before),
-      sym (c .before .given-within4 .ensures) ∙ not-true _ (c .if5 .taken),
-    )
+    sym (requirement-decides (c .before .before) ∙ unless-failed _ (c .before .given-within4 .ensures) (c .if5 .taken))
 
 returns-6 : tie.Need-returns-6
-unfolding rangeFault
 returns-6 c =
-    simp (
-      year-within (c .before .before .before .before .before .before .before .before .before),
-      cost-within (c .before .before .before .before .before .before .before),
-      offset-within (c .before .before .before .before),
-      outage-within (c .before .before),
-      sym (c .before .given-within4 .ensures) ∙ not-false _ (c .if5 .left),
-    )
+    sym (requirement-decides (c .before .before)
+    ∙ unless-held (parameterOutOfRange 5) (c .before .given-within4 .ensures) (c .if5 .left))
 
 pub parameter-fault-spec : {M : Type 1} → statement M
 parameter-fault-spec =

@@ -1,12 +1,12 @@
 -- `first_repeat` is the first row whose resource number stands in an earlier row. The rows' invariant: each row passed is
 -- fresh. The inner loop's: the row's resource number stands in none of the earlier rows passed.
 -- Assumes nothing.
-use mathlib.Core.Path.{_≡_, refl, sym, ap, _∙_}
+use mathlib.Core.Path.{_≡_, ap, _∙_}
 use mathlib.Core.Bool.{true, not}
-use Prim.Native.Nat.{_≤_, _<_, _-_}
+use Prim.Native.Nat.{_≤_, _-_}
 use native.Mathlib.Omega.{arith}
 use lib.Dec.{eqb}
-use lib.ListN.{length, getD}
+use lib.ListN.{getD}
 use borrow.Author.Needs.{needs}
 use Rattle.laws.specs.Sum.{every}
 use Rattle.laws.proofs.Everys.{every-zero}
@@ -78,10 +78,10 @@ returns c = (
 returns-2 : tie.Need-returns-2 Inv-loop μ-loop Inv-rows μ-rows
 returns-2 c = (
   repeat-found _ _ _ _
-    (c .before .before .before .before .before .rows-test .taken)
-    (c .before .before .before .before .before .before .rows .inv .1)
-    (c .before .before .before .loop-test .taken)
-    (c .if1 .taken),
+      (c .before .before .before .before .before .rows-test .taken)
+      (c .before .before .before .before .before .before .rows .inv .1)
+      (c .before .before .before .loop-test .taken)
+      (c .if1 .taken),
   omega arith,
 )
 

@@ -1,0 +1,51 @@
+// What the rows of a book sell under parameters: the total, the price, and each row's amount.
+use columns::read_columns;
+use curve::{Terms, points_2026};
+use market::margin::level_of;
+use market::price::{ClearingPrice, clearing_price};
+use market::total::cleared_total;
+use shares::share_out;
+use units::DollarsPerMwYear;
+use values::head::Parameters;
+use values::number_held;
+ghost use mathlib.Core.Path.{_≡_};
+ghost use Prim.Native.Nat.{_≤_};
+ghost use lib.ListN.{length};
+ghost use Rattle.ozpinduru.specs.Auction.{termsOf};
+ghost use Rattle.ozpinduru.specs.Sale.{Clearable, SoldAs};
+
+// The total and the price of a sale.
+pub struct Sale {
+    pub total: u32,
+    pub price: ClearingPrice,
+}
+
+// The terms that parameters with every value given state.
+fn terms_of(p: Parameters) -> Terms
+    ensures { λ r. ⌜ r ≡ termsOf p ⌝ }
+{
+    Terms {
+        cost: DollarsPerMwYear(number_held(p.cost)),
+        offset: DollarsPerMwYear(number_held(p.offset)),
+        outage: number_held(p.outage),
+        requirement: number_held(p.requirement),
+    }
+}
+
+// The sale of n rows, with what each clears.
+pub fn sell(book: &[u8], p: Parameters, n: usize, amounts: &mut [u32]) -> Sale
+    requires { ⌜ Clearable (now book) p n × (n ≤ length (now amounts)) ⌝ }
+    ensures { λ r. ⌜ SoldAs (now (book .entry)) p n (now (amounts .entry)) r (now (amounts .exit)) ⌝ }
+{
+    let mut prices = [0u32; 600];
+    let mut quantities = [0u32; 600];
+    let mut highs = [0u32; 600];
+    let mut lows = [0u32; 600];
+    let mut resources = [0u32; 600];
+    read_columns(book, n, &mut prices, &mut quantities, &mut highs, &mut lows, &mut resources);
+    let c = points_2026(terms_of(p));
+    let total = cleared_total(c, &prices, &quantities, n);
+    let level = level_of(&prices, &quantities, n, total);
+    share_out(&prices, &quantities, &highs, &lows, &resources, n, level, amounts);
+    Sale { total, price: clearing_price(c, level) }
+}

@@ -1,0 +1,91 @@
+-- A contest told one key at a time.
+--
+-- In order: who contends and who has won after a key is held to a limit; a key that parts the contenders, told; nothing left
+-- to win; one part told after another.
+-- Assumes nothing.
+use mathlib.Core.Path.{_≡_, refl, sym, ap, ap₂, _∙_}
+use mathlib.Core.Bool.{Bool, _&&_, _||_, or-assoc, or-false}
+use mathlib.Core.List.{List}
+use Prim.Native.Nat.{ℕ, _-_, _<_}
+use native.Mathlib.Omega.{arith}
+use lib.ListN.{getD}
+use lib.Dec.{ltb, eqb}
+use borrow.Author.Tests.{lt-ltb, le-ltb, eq-eqb, ne-eqb}
+use Rattle.laws.proofs.Cases.{by-equality}
+use Rattle.laws.proofs.Orders.{by-comparison}
+use Rattle.spares.specs.Contest.{contenders}
+use Rattle.spares.specs.Sieve.{Parts, countUnder, held, keyOf, stands, winners}
+use Rattle.spares.specs.Award.{Rewritten, Sifted, Told}
+use Rattle.spares.proofs.Steps.{level, sift-step}
+use Rattle.spares.proofs.Winning.{wins-contenders, wins-nothing}
+
+-- who contends after a limit contended and has that key
+stands-contends : (x k t : ℕ) → eqb (stands x k t) 1 ≡ eqb x 1 && eqb k t
+stands-contends x k t =
+    by-equality x 1
+    (λ e.
+    rw e
+    (by-comparison k t
+    (λ l. rw (lt-ltb k t l, ne-eqb k t (omega arith)))
+    (λ l. rw (le-ltb k t (omega arith), eq-eqb k t l))
+    (λ l. rw (le-ltb k t (omega arith), ne-eqb k t (omega arith)))))
+    (λ h. rw (ne-eqb x 1 h) (ne-eqb x 1 h))
+
+-- who has won after a limit had won, or contended under it
+stands-won : (x k t : ℕ) → eqb (stands x k t) 2 ≡ eqb x 2 || (eqb x 1 && ltb k t)
+stands-won x k t =
+    by-equality x 1
+    (λ e.
+    rw e
+    (by-comparison k t
+    (λ l. rw (lt-ltb k t l))
+    (λ l. rw (le-ltb k t (omega arith), eq-eqb k t l))
+    (λ l. rw (le-ltb k t (omega arith), ne-eqb k t (omega arith)))))
+    (λ h. rw (ne-eqb x 1 h) (sym (or-false (eqb x 2))))
+
+module _ (keys entry exit : List ℕ) (n spare limit : ℕ) (kept : Rewritten (held keys entry limit) n entry exit) where
+  -- the same of the rows of a list
+  contends-after : (j : ℕ) → j < n → contenders exit j ≡ level (contenders entry) (keyOf keys) limit j
+  unfolding held
+  contends-after j l = ap (λ (x : ℕ). eqb x 1) (kept .within j l) ∙ stands-contends (getD entry j 0) (keyOf keys j) limit
+
+  won-after : (i : ℕ) → i < n → winners exit i ≡ winners entry i || (contenders entry i && ltb (keyOf keys i) limit)
+  unfolding held
+  won-after i l = ap (λ (x : ℕ). eqb x 2) (kept .within i l) ∙ stands-won (getD entry i 0) (keyOf keys i) limit
+
+  -- a key held to a limit that parts the contenders is told
+  pub told-key : (won : ℕ) → won ≡ countUnder (contenders entry) (keyOf keys) limit n
+      → Parts (contenders entry) (keyOf keys) n spare limit → Sifted keys n entry spare exit (spare - won)
+  told-key won e parts rest irreflexive =
+      rw e
+      (record {
+        rows = kept .rows;
+        within = λ i l.
+            ap₂ _||_ (won-after i l) (wins-contenders _ _ rest n _ i contends-after l)
+            ∙ or-assoc (winners entry i) _ _
+            ∙ ap (λ (b : Bool). winners entry i || b) (sym (sift-step _ _ rest n spare limit i parts l (irreflexive i)));
+        beyond = kept .beyond;
+      })
+
+-- where nothing is left the standings tell it all
+pub told-nothing : (n spare : ℕ) (whole rest : ℕ → ℕ → Bool) (entry : List ℕ)
+    → spare ≡ 0 → Told n whole rest entry spare entry 0
+told-nothing n spare whole rest entry e =
+    rw e
+    (record {
+      rows = refl;
+      within = λ i l.
+          ap (λ (b : Bool). winners entry i || b) (wins-nothing _ rest n i ∙ sym (wins-nothing _ whole n i));
+      beyond = λ i l. refl;
+    })
+
+-- a part told, and then another
+pub told-then : (n : ℕ) (whole part rest : ℕ → ℕ → Bool) (spare some left : ℕ) (entry between exit : List ℕ)
+    → Told n whole part entry spare between some → Told n part rest between some exit left
+    → Told n whole rest entry spare exit left
+told-then n whole part rest spare some left entry between exit a b =
+    record {
+      rows = b .rows ∙ a .rows;
+      within = λ i l. b .within i l ∙ a .within i l;
+      beyond = λ i l. b .beyond i l ∙ a .beyond i l;
+    }
