@@ -30,7 +30,7 @@ module _ (needed : Bool) (b : List ℕ) where
       record {
         found = sym (first-zero _);
         length-kept = refl;
-        own = λ row l. absurd (not-suc-le-zero l)
+        own = λ row l. absurd (not-suc-le-zero l);
       }
 
   -- rows before the one that is stored keep their own numbers
@@ -52,9 +52,9 @@ module _ (needed : Bool) (b : List ℕ) where
         found = sym (first-on _ row (sym (r .found)) passed);
         length-kept = length-set after row number ∙ r .length-kept;
         own = λ i k.
-          by-order row i
-          (λ h. let same : i ≡ row = omega arith in rw same (getD-set-same after row number 0 l ∙ e))
-          (λ h. own-kept row number r i h)
+            by-order row i
+            (λ h. let same : i ≡ row = omega arith in rw same (getD-set-same after row number 0 l ∙ e))
+            (λ h. own-kept row number r i h);
       }
 
   -- a row that is refused, after rows that passed
@@ -69,8 +69,8 @@ module _ (needed : Bool) (b : List ℕ) where
         found = sym (first-refused _ n row number place l (sym (r .found)) refused);
         length-kept = length-set after row stored ∙ r .length-kept;
         own = λ i k.
-          let same : place ≡ row = offerFault-row needed (bookOffer b row) row number place refused in
-          own-kept row stored r i (omega arith)
+            let same : place ≡ row = offerFault-row needed (bookOffer b row) row number place refused in
+            own-kept row stored r i (omega arith);
       }
 
   module _ (n : ℕ) {fault : Verdict} {before after : List ℕ} (r : ValuesRead needed b n fault before after) where

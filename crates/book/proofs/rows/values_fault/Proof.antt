@@ -86,13 +86,14 @@ loop-less c = search needs
 loop-again : tie.Need-loop-again Inv-loop μ-loop
 loop-again c =
     let tested = c .before .before in
-    let at = tested .before .before .before .before in
-    (search needs,
-    values-more _ _ _ _
-    (at .loop .inv .1)
-    (search needs)
-    (ap (λ (o : Offer). o .resource) (as-offer (tested .before)))
-    (sym (as-fault tested) ∙ c .enum-told .given .1))
+    let at = tested .before .before .before .before in (
+      search needs,
+      values-more _ _ _ _
+          (at .loop .inv .1)
+          (search needs)
+          (ap (λ (o : Offer). o .resource) (as-offer (tested .before)))
+          (sym (as-fault tested) ∙ c .enum-told .given .1),
+    )
 
 same-length-2 : tie.Need-same-length-2 Inv-loop μ-loop
 same-length-2 c = search needs
