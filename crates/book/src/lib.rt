@@ -1,16 +1,26 @@
 // The first fault of a book, and whether a book is sound.
 mod rows;
 
+use block::SIZE;
 use layout::form::form;
 use layout::reader::offer_count;
-use limits::parameters::{missing_in, parameter_fault};
+use limits::parameters::missing_in;
+use limits::parameters::parameter_fault;
 use values::Verdict;
 use values::head::parameters_in;
 ghost use mathlib.Core.Path.{_≡_};
-ghost use mathlib.Core.Bool.{Bool};
-ghost use Prim.Native.Nat.{_≤_};
-ghost use lib.ListN.{length};
+ghost use Rattle.values.specs.Refusals.{andThen};
 ghost use Rattle.book.specs.Faults.{firstFault, soundFault};
+
+// The first fault of two tests: the second's where the first passed.
+fn and_then(test: Verdict, next: Verdict) -> Verdict
+    ensures { λ r. ⌜ r ≡ andThen test next ⌝ }
+{
+    match test {
+        Verdict::Passed => next,
+        Verdict::Refused(number, place) => Verdict::Refused(number, place),
+    }
+}
 
 // The first fault of a book that is to be cleared: 1, 2, 3, then 4, then 5, then the rows' 6, 7, 8.
 pub fn verdict(book: &[u8]) -> Verdict
@@ -19,11 +29,10 @@ pub fn verdict(book: &[u8]) -> Verdict
     if let Verdict::Refused(number, place) = form(book) {
         return Verdict::Refused(number, place);
     }
-    let head = &book[0..512];
-    if let Verdict::Refused(number, place) = missing_in(head) {
-        return Verdict::Refused(number, place);
-    }
-    if let Verdict::Refused(number, place) = parameter_fault(parameters_in(head)) {
+    let head = &book[0..SIZE];
+    let missing = missing_in(head);
+    let range = parameter_fault(parameters_in(head));
+    if let Verdict::Refused(number, place) = and_then(missing, range) {
         return Verdict::Refused(number, place);
     }
     rows::rows_fault(book, offer_count(book), true)
@@ -36,7 +45,7 @@ pub fn soundness(book: &[u8]) -> Verdict
     if let Verdict::Refused(number, place) = form(book) {
         return Verdict::Refused(number, place);
     }
-    if let Verdict::Refused(number, place) = parameter_fault(parameters_in(&book[0..512])) {
+    if let Verdict::Refused(number, place) = parameter_fault(parameters_in(&book[0..SIZE])) {
         return Verdict::Refused(number, place);
     }
     rows::rows_fault(book, offer_count(book), false)

@@ -1,0 +1,52 @@
+-- The faults of a book, stage by stage as the code goes: the form, the parameters, the rows.
+--
+-- In order: three tests, of which two are taken together; a book whose form is refused; what decides where the form passed;
+-- that its rows then lie within it.
+-- Assumes nothing.
+use mathlib.Core.Path.{_≡_, refl, _∙_}
+use mathlib.Core.Bool.{true, false}
+use mathlib.Core.List.{List}
+use Prim.Native.Nat.{ℕ}
+use Rattle.values.specs.Refusals.{andThen}
+use Rattle.values.specs.declared.Verdict.{Verdict}
+use Rattle.values.specs.declared.Verdict.the-variants.{Passed, Refused}
+use Rattle.values.proofs.Firsts.{andThen-next, andThen-refused}
+use Rattle.limits.specs.Parameters.{missingFault, rangeFault}
+use Rattle.limits.specs.Offers.{rowsFault}
+use Rattle.layout.specs.Form.{formFault, offerCount}
+use Rattle.layout.specs.Read.{bookParameters, bookOffer, Inside}
+use Rattle.layout.proofs.Passing.{form-passed-count, form-passed-row}
+use Rattle.book.specs.Faults.{firstFault, soundFault}
+
+andThen-assoc : (u v w : Verdict) → andThen u (andThen v w) ≡ andThen (andThen u v) w
+andThen-assoc Passed v w = refl
+andThen-assoc (Refused number place) v w = refl
+
+-- ---- the form is refused
+
+module _ (b : List ℕ) {number place : ℕ} (refused : formFault b ≡ Refused number place) where
+  pub first-form : firstFault b ≡ Refused number place
+  unfolding firstFault
+  first-form = andThen-refused (formFault b) _ number place refused
+
+  pub sound-form : soundFault b ≡ Refused number place
+  unfolding soundFault
+  sound-form = andThen-refused (formFault b) _ number place refused
+
+-- ---- the form passed
+
+module _ (b : List ℕ) (formed : formFault b ≡ Passed) where
+  -- the parameters decide, by 4 and then 5, and then the rows
+  pub first-formed : firstFault b
+      ≡ andThen (andThen (missingFault (bookParameters b)) (rangeFault (bookParameters b))) (rowsFault true (bookOffer b) (offerCount b))
+  unfolding firstFault
+  first-formed = andThen-next (formFault b) _ formed ∙ andThen-assoc (missingFault (bookParameters b)) _ _
+
+  -- of soundness by 5 alone
+  pub sound-formed : soundFault b ≡ andThen (rangeFault (bookParameters b)) (rowsFault false (bookOffer b) (offerCount b))
+  unfolding soundFault
+  sound-formed = andThen-next (formFault b) _ formed
+
+  -- its rows are at most 600 and lie within it
+  pub form-inside : Inside b (offerCount b)
+  form-inside = record { few = form-passed-count b formed; within = form-passed-row b formed }
