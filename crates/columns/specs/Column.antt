@@ -28,15 +28,3 @@ module _ (b : List ℕ) (row : ℕ) where
 -- a list that was `before` holds n rows of a column
 abbrev pub Column : (ℕ → ℕ) → ℕ → List ℕ → List ℕ → Type 0
 Column value n before after = after ≡ filled value n before
-
--- what the columns of a book hold once its first n rows are read: each list as it was before and as it is after
-pub record ColumnsRead
-    (b : List ℕ)
-    (n : ℕ)
-    (prices₀ prices quantities₀ quantities highs₀ highs lows₀ lows resources₀ resources : List ℕ)
-    : Type 0 where
-  pub price : Column (priceOf b) n prices₀ prices
-  pub quantity : Column (quantityOf b) n quantities₀ quantities
-  pub high : Column (highOf b) n highs₀ highs
-  pub low : Column (lowOf b) n lows₀ lows
-  pub resource : Column (resourceOf b) n resources₀ resources

@@ -1,16 +1,16 @@
 // The rows of a book, read once into columns.
+pub mod fill;
+
 use layout::reader::row_of;
 use values::number_held;
 use values::place::offer_in;
-ghost use Prim.Native.Nat.{_≤_};
-ghost use lib.ListN.{length};
 ghost use Rattle.layout.specs.Read.{Inside};
-ghost use Rattle.columns.specs.Column.{ColumnsRead};
+ghost use Rattle.columns.specs.Columns.{columnsOf, Room, ColumnsRead};
 
-// How many numbers a half of a time stamp can hold.
+// How many numbers a half of a time stamp can be.
 const HALF: u64 = 4294967296;
 
-// Reads the first n rows of a book into five columns: each row's bytes are looked at once.
+// Reads the first n rows of a book into five columns. Each row's own bytes are looked up once.
 pub fn read_columns(
     book: &[u8],
     n: usize,
@@ -20,16 +20,19 @@ pub fn read_columns(
     lows: &mut [u32],
     resources: &mut [u32],
 )
-    requires { ⌜ Inside (now book) n × (n ≤ length (now prices)) × (n ≤ length (now quantities)) × (n ≤ length (now highs)) × (n ≤ length (now lows)) × (n ≤ length (now resources)) ⌝ }
-    ensures { λ _. ⌜ ColumnsRead (now (book .entry)) n (now (prices .entry)) (now (prices .exit)) (now (quantities .entry)) (now (quantities .exit)) (now (highs .entry)) (now (highs .exit)) (now (lows .entry)) (now (lows .exit)) (now (resources .entry)) (now (resources .exit)) ⌝ }
+    requires { ⌜ Inside (now book) n ⌝ }
+    requires { ⌜ Room n (columnsOf (now prices) (now quantities) (now highs) (now lows) (now resources)) ⌝ }
+    ensures { λ _. ⌜ ColumnsRead (now (book .entry)) n
+        (columnsOf (now (prices .entry)) (now (quantities .entry)) (now (highs .entry)) (now (lows .entry)) (now (resources .entry)))
+        (columnsOf (now (prices .exit)) (now (quantities .exit)) (now (highs .exit)) (now (lows .exit)) (now (resources .exit))) ⌝ }
 {
     for row in 0..n {
-        let o = offer_in(row_of(book, row));
-        let price = o.price;
+        let offer = offer_in(row_of(book, row));
+        let price = offer.price;
         prices[row] = number_held(price);
-        quantities[row] = o.quantity;
-        highs[row] = (o.stamp / HALF) as u32;
-        lows[row] = (o.stamp % HALF) as u32;
-        resources[row] = o.resource;
+        quantities[row] = offer.quantity;
+        highs[row] = (offer.stamp / HALF) as u32;
+        lows[row] = (offer.stamp % HALF) as u32;
+        resources[row] = offer.resource;
     }
 }
