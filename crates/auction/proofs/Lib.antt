@@ -13,3 +13,4 @@ pub mod ShareLaws
 pub mod Spares
 pub mod Cleared
 pub mod Committed
+pub mod Divided

@@ -34,7 +34,7 @@ clearingOf b p =
     record {
       total = total b p;
       price = asPrice (price b p);
-      make_whole = allMakeWhole b p;
+      «make_whole» = allMakeWhole b p;
       daily = dailyTotal b p;
       year = yearTotal b p
     }
