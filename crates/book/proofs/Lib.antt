@@ -1,2 +1,5 @@
 pub mod Values
 pub mod Stages
+pub mod Unpriced
+pub mod Accepted
+pub mod Decided

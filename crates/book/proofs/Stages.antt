@@ -25,13 +25,13 @@ andThen-assoc (Refused number place) v w = refl
 -- ---- the form is refused
 
 module _ (b : List ℕ) {number place : ℕ} (refused : formFault b ≡ Refused number place) where
-  pub first-form : firstFault b ≡ Refused number place
+  pub first-form-refused : firstFault b ≡ Refused number place
   unfolding firstFault
-  first-form = andThen-refused (formFault b) _ number place refused
+  first-form-refused = andThen-refused (formFault b) _ number place refused
 
-  pub sound-form : soundFault b ≡ Refused number place
+  pub sound-form-refused : soundFault b ≡ Refused number place
   unfolding soundFault
-  sound-form = andThen-refused (formFault b) _ number place refused
+  sound-form-refused = andThen-refused (formFault b) _ number place refused
 
 -- ---- the form passed
 

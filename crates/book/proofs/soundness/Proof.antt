@@ -12,7 +12,7 @@ use Rattle.layout.specs.Blocks.{blockOf}
 use Rattle.layout.specs.Form.{formFault}
 use Rattle.layout.specs.Read.{bookParameters}
 use Rattle.layout.proofs.Passing.{form-passed-length}
-use Rattle.book.proofs.Stages.{sound-form, sound-formed, form-inside}
+use Rattle.book.proofs.Stages.{sound-form-refused, sound-formed, form-inside}
 use Rattle.book.proofs.soundness.Statement.{statement}
 use Rattle.book.proofs.soundness.Tie as tie
 
@@ -23,7 +23,7 @@ enum-known-number : tie.Need-enum-known-number
 enum-known-number c = search needs
 
 returns : tie.Need-returns
-returns c = sym (sound-form _ (sym (c .before .before .before .form .ensures) ∙ c .before .number .given .1))
+returns c = sym (sound-form-refused _ (sym (c .before .before .before .form .ensures) ∙ c .before .number .given .1))
 
 enum-told : tie.Need-enum-told
 enum-told c = search needs

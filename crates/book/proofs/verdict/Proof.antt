@@ -14,7 +14,7 @@ use Rattle.layout.specs.Blocks.{blockOf}
 use Rattle.layout.specs.Form.{formFault}
 use Rattle.layout.specs.Read.{bookParameters}
 use Rattle.layout.proofs.Passing.{form-passed-length}
-use Rattle.book.proofs.Stages.{first-form, first-formed, form-inside}
+use Rattle.book.proofs.Stages.{first-form-refused, first-formed, form-inside}
 use Rattle.book.proofs.verdict.Statement.{statement}
 use Rattle.book.proofs.verdict.Tie as tie
 
@@ -25,7 +25,7 @@ enum-known-number : tie.Need-enum-known-number
 enum-known-number c = search needs
 
 returns : tie.Need-returns
-returns c = sym (first-form _ (sym (c .before .before .before .form .ensures) ∙ c .before .number .given .1))
+returns c = sym (first-form-refused _ (sym (c .before .before .before .form .ensures) ∙ c .before .number .given .1))
 
 enum-told : tie.Need-enum-told
 enum-told c = search needs
