@@ -7,7 +7,7 @@ use settle::{committed_of, make_whole, mills_of};
 use values::head::Parameters;
 use values::place::offer_in;
 ghost use mathlib.Core.Path.{_≡_};
-ghost use Prim.Native.Nat.{ℕ, _*_, _≤_, _<_};
+ghost use Prim.Native.Nat.{ℕ, _+_, _*_, _/_, _≤_};
 ghost use mathlib.Core.Option.{some};
 ghost use lib.ListN.{length, getD};
 ghost use Rattle.laws.specs.Filled.{filled};
@@ -19,11 +19,12 @@ ghost use Rattle.ozpinduru.specs.Payment.{commitmentOf, wholeOf, Payable
 
 // What a row commits of an amount that it clears.
 fn commitment(book: &[u8], row: usize, amount: u32) -> u32
-    requires { ⌜ Inside (now book) (row + 1) ⌝ }
+    requires { ⌜ (1 + row / 15) * 512 + 512 ≤ length (now book) ⌝ }
     ensures { λ r. ⌜ r ≡ commitmentOf (now (book .entry)) (λ i. amount) row ⌝ }
 {
     let o = offer_in(row_of(book, row));
-    committed_of(o.block, amount)
+    let block = o.block;
+    committed_of(block, amount)
 }
 
 // The make-whole of n rows, in mills a day.

@@ -24,11 +24,15 @@ pub struct Sale {
 fn terms_of(p: Parameters) -> Terms
     ensures { λ r. ⌜ r ≡ termsOf p ⌝ }
 {
+    let cost = p.cost;
+    let offset = p.offset;
+    let outage = p.outage;
+    let requirement = p.requirement;
     Terms {
-        cost: DollarsPerMwYear(number_held(p.cost)),
-        offset: DollarsPerMwYear(number_held(p.offset)),
-        outage: number_held(p.outage),
-        requirement: number_held(p.requirement),
+        cost: DollarsPerMwYear(number_held(cost)),
+        offset: DollarsPerMwYear(number_held(offset)),
+        outage: number_held(outage),
+        requirement: number_held(requirement),
     }
 }
 

@@ -1,0 +1,15 @@
+-- `days_of` meets its contract.
+-- Assumes nothing.
+use mathlib.Core.Path.{refl}
+use Rattle.auction.specs.Settlement.{daysOf}
+use native.Mathlib.Omega.{arith}
+use borrow.Author.Needs.{needs}
+use Rattle.ozpinduru.proofs.payment.days_of.Statement.{statement}
+use Rattle.ozpinduru.proofs.payment.days_of.Tie as tie
+
+returns : tie.Need-returns
+unfolding daysOf
+returns c = (refl, omega arith)
+
+pub days-of-spec : {M : Type 1} → statement M
+days-of-spec = tie.close (tie.spec returns)
