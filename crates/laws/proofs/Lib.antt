@@ -20,3 +20,4 @@ pub mod Pieces
 pub mod Products
 pub mod Fills
 pub mod Ways
+pub mod Nones
