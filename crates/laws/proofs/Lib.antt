@@ -20,4 +20,3 @@ pub mod Pieces
 pub mod Products
 pub mod Fills
 pub mod Ways
-pub mod Nones

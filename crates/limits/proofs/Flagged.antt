@@ -1,23 +1,18 @@
 -- What a table of flags shows of the rows passed, where each resource number has a place in the table.
 --
--- In order: no row; one row more; a flag that is not set; a count of the earlier rows that have the number.
+-- In order: no row; one row more; a row whose flag is not set.
 -- Assumes nothing.
-use mathlib.Core.Path.{_≡_, sym, ap, _∙_}
-use mathlib.Core.Bool.{Bool, true, false, true≢false, not}
+use mathlib.Core.Path.{_≡_, sym, _∙_}
+use mathlib.Core.Bool.{Bool, true, false, true≢false}
 use mathlib.Core.List.{List}
-use Prim.Native.Nat.{ℕ, _+_, _≤_, _<_}
+use Prim.Native.Nat.{ℕ, _+_, _<_}
 use native.Mathlib.Numerals.{add-one}
 use native.Mathlib.Nat.{not-suc-le-zero}
-use native.Mathlib.Omega.{arith}
-use lib.Dec.{eqb}
 use lib.ListN.{length, getD, set}
 use lib.Seq.{getD-set-same, getD-set-other}
-use borrow.Author.Tests.{eqb-true, eq-eqb, ne-eqb, not-false}
-use Rattle.laws.specs.Sum.{countWhere, every}
+use borrow.Author.Tests.{eqb-true, not-false}
 use Rattle.laws.proofs.Cases.{by-equality}
 use Rattle.laws.proofs.Compare.{up-to-last}
-use Rattle.laws.proofs.Everys.{every-false}
-use Rattle.laws.proofs.Nones.{every-not}
 use Rattle.limits.specs.Repeats.{fresh}
 use Rattle.limits.proofs.Failing.{by-failing}
 
@@ -33,11 +28,11 @@ set-kept met p q fits e =
     (λ apart. getD-set-other met p q true false apart ∙ e)
 
 module _ (place resources : ℕ → ℕ) (met : List Bool) where
-  -- before the first row no flag has to be
+  -- no row passed, no flag to set
   pub flagged-none : Flagged place resources met 0
   flagged-none = record { flag = λ row l. absurd (not-suc-le-zero l) }
 
-  -- one row more, whose flag is set now
+  -- one row more, with its flag set
   pub flagged-more : (n p : ℕ) → p < length met → p ≡ place (resources n)
       → Flagged place resources met n → Flagged place resources (set met p true) (n + 1)
   flagged-more n p fits e h =
@@ -49,7 +44,7 @@ module _ (place resources : ℕ → ℕ) (met : List Bool) where
             (rw (← e) (getD-set-same met p true false fits)));
       }
 
-  -- where the flag at its place is not set, a row's number stands in no row passed
+  -- a row whose flag is not set: its resource number stands in none of the rows passed
   pub unmet-fresh : (n p : ℕ) → p ≡ place (resources n)
       → Flagged place resources met n → getD met p false ≡ false → fresh resources n ≡ true
   unmet-fresh n p e h unset =
@@ -57,17 +52,5 @@ module _ (place resources : ℕ → ℕ) (met : List Bool) where
       (λ f. f)
       (λ row l before f.
       let same : resources row ≡ resources n = eqb-true _ _ (not-false _ f) in
-      let set : getD met (place (resources n)) false ≡ true = rw same at (h .flag row l) in
-      absurd (true≢false (sym set ∙ rw e at unset)))
-
-module _ (resources : ℕ → ℕ) (row count : ℕ) (counted : count ≡ countWhere (λ r. eqb (resources r) (resources row)) row) where
-  -- a row is fresh exactly where the count of the earlier rows that have its number is 0
-  fresh-counted : fresh resources row ≡ eqb count 0
-  fresh-counted = every-not _ row ∙ ap (λ (k : ℕ). eqb k 0) (sym counted)
-
-  pub uncounted-fresh : count ≤ 0 → fresh resources row ≡ true
-  uncounted-fresh none = fresh-counted ∙ eq-eqb count 0 (omega arith)
-
-  pub counted-repeat : (n : ℕ) → row < n → 0 < count → false ≡ every (fresh resources) n
-  counted-repeat n l some =
-      sym (every-false (fresh resources) n row l (fresh-counted ∙ ne-eqb count 0 (λ none. omega arith)))
+      let flag : getD met (place (resources n)) false ≡ true = rw same at (h .flag row l) in
+      absurd (true≢false (sym flag ∙ rw e at unset)))

@@ -1,5 +1,5 @@
 // The limits that the outline sets: refusals 4 to 8, on values that are read already.
-pub mod flags;
+mod flags;
 pub mod offers;
 pub mod parameters;
 pub mod repeats;
