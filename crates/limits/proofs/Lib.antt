@@ -3,6 +3,7 @@ pub mod Tested
 pub mod Prices
 pub mod Failing
 pub mod Fresh
+pub mod Flagged
 pub mod Lowest
 pub mod Rows
 pub mod Passing

@@ -1,5 +1,6 @@
 pub mod Parameters
 pub mod Repeats
+pub mod Flags
 pub mod Offers
 pub mod Rows
 pub mod Ranges

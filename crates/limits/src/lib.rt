@@ -1,4 +1,5 @@
 // The limits that the outline sets: refusals 4 to 8, on values that are read already.
+mod flags;
 pub mod offers;
 pub mod parameters;
 pub mod repeats;

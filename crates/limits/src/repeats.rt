@@ -1,4 +1,5 @@
 // Refusal 8: a resource number that stands in an earlier row.
+use crate::flags::fresh_rows;
 use values::Verdict;
 ghost use mathlib.Core.Path.{_≡_};
 ghost use Prim.Native.Nat.{_≤_};
@@ -6,12 +7,13 @@ ghost use lib.ListN.{length, getD};
 ghost use Rattle.limits.specs.Repeats.{firstRepeat};
 ghost use Rattle.limits.specs.Rows.{rowsBefore, withRepeats};
 
-// The first of n rows whose resource number stands in an earlier row, and n where there is none.
+// The first of n rows whose resource number stands in an earlier row, and n where there is none. The search starts past the
+// rows that a table of flags shows to be fresh.
 pub fn first_repeat(resources: &[u32], n: usize) -> usize
     requires { ⌜ n ≤ length (now resources) ⌝ }
     ensures { λ r. ⌜ (r ≡ firstRepeat (λ row. getD (now (resources .entry)) row 0) n) × (r ≤ n) ⌝ }
 {
-    let mut row = 0;
+    let mut row = fresh_rows(resources, n);
     'rows: while row < n {
         let mut earlier = 0;
         while earlier < row {

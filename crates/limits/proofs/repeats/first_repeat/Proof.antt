@@ -1,5 +1,5 @@
 -- `first_repeat` is the first row whose resource number stands in an earlier row. The rows' invariant: each row passed is
--- fresh. The inner loop's: the row's resource number stands in none of the earlier rows passed.
+-- fresh, as `fresh_rows` gives it. The inner loop's: the row's resource number stands in none of the earlier rows passed.
 -- Assumes nothing.
 use mathlib.Core.Path.{_≡_, ap, _∙_}
 use mathlib.Core.Bool.{true, not}
@@ -29,8 +29,11 @@ Inv-rows resources n row₀ row = (row ≤ n) × (every (fresh (λ r. getD resou
 abbrev μ-rows : tie.MeasureT-rows
 μ-rows resources n row₀ row = n - row
 
+fresh-rows-requires : tie.Need-fresh-rows-requires Inv-loop μ-loop Inv-rows μ-rows
+fresh-rows-requires c κs = search needs
+
 rows-holds : tie.Need-rows-holds Inv-loop μ-loop Inv-rows μ-rows
-rows-holds c = (omega arith, every-zero _)
+rows-holds c = c .fresh-rows .ensures
 
 loop-holds : tie.Need-loop-holds Inv-loop μ-loop Inv-rows μ-rows
 loop-holds c = (omega arith, every-zero _)
@@ -93,6 +96,7 @@ first-repeat-spec =
     μ-loop
     Inv-rows
     μ-rows
+    fresh-rows-requires
     rows-holds
     loop-holds
     mul-if1

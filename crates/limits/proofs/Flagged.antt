@@ -1,0 +1,56 @@
+-- What a table of flags shows of the rows passed, where each resource number has a place in the table.
+--
+-- In order: no row; one row more; a row whose flag is not set.
+-- Assumes nothing.
+use mathlib.Core.Path.{_≡_, sym, _∙_}
+use mathlib.Core.Bool.{Bool, true, false, true≢false}
+use mathlib.Core.List.{List}
+use Prim.Native.Nat.{ℕ, _+_, _<_}
+use native.Mathlib.Numerals.{add-one}
+use native.Mathlib.Nat.{not-suc-le-zero}
+use lib.ListN.{length, getD, set}
+use lib.Seq.{getD-set-same, getD-set-other}
+use borrow.Author.Tests.{eqb-true, not-false}
+use Rattle.laws.proofs.Cases.{by-equality}
+use Rattle.laws.proofs.Compare.{up-to-last}
+use Rattle.limits.specs.Repeats.{fresh}
+use Rattle.limits.proofs.Failing.{by-failing}
+
+-- For each of the first n rows the flag at the place of its resource number is set.
+pub record Flagged (place resources : ℕ → ℕ) (met : List Bool) (n : ℕ) : Type 0 where
+  pub flag : (row : ℕ) → row < n → getD met (place (resources row)) false ≡ true
+
+-- one more flag that is set leaves those that are
+set-kept : (met : List Bool) (p q : ℕ) → p < length met → getD met q false ≡ true → getD (set met p true) q false ≡ true
+set-kept met p q fits e =
+    by-equality q p
+    (λ same. rw same (getD-set-same met p true false fits))
+    (λ apart. getD-set-other met p q true false apart ∙ e)
+
+module _ (place resources : ℕ → ℕ) (met : List Bool) where
+  -- no row passed, no flag to set
+  pub flagged-none : Flagged place resources met 0
+  flagged-none = record { flag = λ row l. absurd (not-suc-le-zero l) }
+
+  -- one row more, with its flag set
+  pub flagged-more : (n p : ℕ) → p < length met → p ≡ place (resources n)
+      → Flagged place resources met n → Flagged place resources (set met p true) (n + 1)
+  flagged-more n p fits e h =
+      record {
+        flag =
+            rw add-one
+            (up-to-last _ n
+            (λ row l. set-kept met p (place (resources row)) fits (h .flag row l))
+            (rw (← e) (getD-set-same met p true false fits)));
+      }
+
+  -- a row whose flag is not set: its resource number stands in none of the rows passed
+  pub unmet-fresh : (n p : ℕ) → p ≡ place (resources n)
+      → Flagged place resources met n → getD met p false ≡ false → fresh resources n ≡ true
+  unmet-fresh n p e h unset =
+      by-failing _ n
+      (λ f. f)
+      (λ row l before f.
+      let same : resources row ≡ resources n = eqb-true _ _ (not-false _ f) in
+      let flag : getD met (place (resources n)) false ≡ true = rw same at (h .flag row l) in
+      absurd (true≢false (sym flag ∙ rw e at unset)))

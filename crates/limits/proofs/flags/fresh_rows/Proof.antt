@@ -1,0 +1,100 @@
+-- `limits::flags::fresh_rows` passes fresh rows only. The loop's invariant: each row passed is fresh, and the flag at the place
+-- of its resource number is set.
+-- Assumes nothing.
+use mathlib.Core.Path.{_≡_, sym, ap, _∙_}
+use mathlib.Core.Bool.{true}
+use mathlib.Core.Logic.{⊎-elim}
+use Prim.Native.Nat.{ℕ, _≤_, _-_}
+use native.Mathlib.Omega.{arith}
+use lib.ListN.{length, getD}
+use borrow.Author.Needs.{needs}
+use borrow.Author.Tests.{not-false}
+use Rattle.laws.specs.Sum.{every}
+use Rattle.laws.proofs.Everys.{every-zero}
+use Rattle.limits.specs.Flags.{mixed}
+use Rattle.limits.specs.Repeats.{fresh}
+use Rattle.limits.proofs.Failing.{every-more}
+use Rattle.limits.proofs.Flagged.{Flagged, flagged-none, flagged-more, unmet-fresh}
+use Rattle.limits.proofs.flags.fresh_rows.Statement.{statement}
+use Rattle.limits.proofs.flags.fresh_rows.Tie as tie
+
+abbrev Inv-loop : tie.InvT-loop
+Inv-loop resources n met₀ row₀ met row =
+    (row ≤ n)
+    × (length met ≡ 8192)
+    × (every (fresh (λ r. getD resources r 0)) row ≡ true)
+    × Flagged mixed (λ r. getD resources r 0) met row
+
+abbrev μ-loop : tie.MeasureT-loop
+μ-loop resources n met₀ row₀ met row = n - row
+
+loop-holds : tie.Need-loop-holds Inv-loop μ-loop
+loop-holds c = (search needs, search needs, every-zero _, flagged-none _ _ _)
+
+mul-number : tie.Need-mul-number Inv-loop μ-loop
+mul-number c = search needs
+
+shared-slice-read-number : tie.Need-shared-slice-read-number Inv-loop μ-loop
+shared-slice-read-number c = search needs
+
+mixed-requires : tie.Need-mixed-requires Inv-loop μ-loop
+mixed-requires c κs = search needs
+
+array-read-if1 : tie.Need-array-read-if1 Inv-loop μ-loop
+array-read-if1 c = search needs
+
+absent-requires : tie.Need-absent-requires Inv-loop μ-loop
+absent-requires c κs = search needs
+
+returns : tie.Need-returns Inv-loop μ-loop
+returns c = search needs
+
+array-write-met : tie.Need-array-write-met Inv-loop μ-loop
+array-write-met c = search needs
+
+add-row : tie.Need-add-row Inv-loop μ-loop
+add-row c = search needs
+
+loop-less : tie.Need-loop-less Inv-loop μ-loop
+loop-less c = search needs
+
+-- the row's resource number stands in no earlier row, or its flag was not set
+row-fresh : (c : tie.Joined1 Inv-loop μ-loop)
+    → let head = c .before .before .before .before in
+    fresh (λ r. getD (head .before .before .args .resources .now) r 0) (head .loop .row) ≡ true
+row-fresh c =
+    ⊎-elim
+    (λ w. sym (w .1 .ensures) ∙ not-false _ (w .2 .left))
+    (λ w. unmet-fresh _ _ _ _ _ (c .before .mixed .ensures .0) (c .before .before .before .before .loop .inv .3) (w .left))
+    (c .if1 .came)
+
+loop-again : tie.Need-loop-again Inv-loop μ-loop
+loop-again c =
+    let inv = c .before .before .before .before .loop .inv in (
+      omega arith,
+      search needs,
+      every-more _ _ (inv .2) (row-fresh c),
+      flagged-more _ _ _ _ _ (omega arith) (c .before .mixed .ensures .0) (inv .3),
+    )
+
+returns-2 : tie.Need-returns-2 Inv-loop μ-loop
+returns-2 c = (omega arith, ap (every _) (omega arith) ∙ c .before .loop .inv .2)
+
+pub fresh-rows-spec : {M : Type 1} → statement M
+fresh-rows-spec =
+    tie.close
+    (tie.spec
+    Inv-loop
+    μ-loop
+    loop-holds
+    mul-number
+    shared-slice-read-number
+    mixed-requires
+    array-read-if1
+    absent-requires
+    returns
+    array-write-met
+    add-row
+    loop-less
+    loop-again
+    returns-2)

@@ -1,0 +1,50 @@
+// Fresh rows are passed quickly by a table of flags: one for each place that a resource number can go to.
+//
+// Where the flag at a number's place is not set, the number was not met. Where it is, another number may have set it: there
+// the earlier rows are looked through.
+ghost use mathlib.Core.Path.{_≡_};
+ghost use mathlib.Core.Bool.{true, not};
+ghost use Prim.Native.Nat.{_≤_, _<_};
+ghost use lib.Dec.{eqb};
+ghost use lib.ListN.{length, getD};
+ghost use Rattle.laws.specs.Sum.{every};
+ghost use Rattle.limits.specs.Flags.{mixed};
+ghost use Rattle.limits.specs.Repeats.{fresh};
+
+// Whether a number stands in none of the first n rows. The loop has no branch, so that it runs in lanes.
+fn absent(resources: &[u32], n: usize, number: u32) -> bool
+    requires { ⌜ n ≤ length (now resources) ⌝ }
+    ensures { λ r. ⌜ r ≡ every (λ row. not (eqb (getD (now (resources .entry)) row 0) number)) n ⌝ }
+{
+    let mut none = true;
+    for row in 0..n {
+        none = none & (resources[row] != number);
+    }
+    none
+}
+
+// A number's place in the table: its low and its high half added.
+fn mixed(number: u32) -> usize
+    ensures { λ r. ⌜ (r ≡ mixed number) × (r < 8192) ⌝ }
+{
+    ((number % 65536 + number / 65536) % 8192) as usize
+}
+
+// A row before which every row is fresh: the first that repeats a resource number, or n.
+pub fn fresh_rows(resources: &[u32], n: usize) -> usize
+    requires { ⌜ n ≤ length (now resources) ⌝ }
+    ensures { λ r. ⌜ (r ≤ n) × (every (fresh (λ row. getD (now (resources .entry)) row 0)) r ≡ true) ⌝ }
+{
+    let mut met = [false; 8192];
+    for row in 0..n {
+        let number = resources[row];
+        let place = mixed(number);
+        if met[place] {
+            if !absent(resources, row, number) {
+                return row;
+            }
+        }
+        met[place] = true;
+    }
+    n
+}
