@@ -1,6 +1,10 @@
 // Lines of text in one buffer, so that a program writes once.
+mod number;
+
+pub use number::put_number;
 ghost use mathlib.Core.Path.{_≡_};
 ghost use Prim.Native.Nat.{_+_, min};
+ghost use mathlib.Core.List.{[], _∷_};
 ghost use lib.Dec.{leb};
 ghost use Rattle.text.specs.Put.{Written};
 
@@ -34,4 +38,12 @@ pub fn put_bytes(out: &mut [u8], at: usize, bytes: &[u8]) -> usize
         i += 1;
     }
     at + bytes.len()
+}
+
+// Puts one byte.
+pub fn put_byte(out: &mut [u8], at: usize, byte: u8) -> usize
+    ensures { λ r. ⌜ Written (now (out .entry)) at (byte ∷ []) (now (out .exit)) r ⌝ }
+{
+    let one = [byte];
+    put_bytes(out, at, &one)
 }

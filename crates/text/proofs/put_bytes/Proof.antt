@@ -1,6 +1,6 @@
 -- `put_bytes` copies the bytes to their place, one a turn, where they fit.
 -- Assumes nothing.
-use mathlib.Core.Path.{_≡_, sym, ap, _∙_}
+use mathlib.Core.Path.{_≡_, refl, sym, _∙_}
 use mathlib.Core.List.{List}
 use Prim.Native.Nat.{ℕ, _+_, _-_, _≤_, _<_}
 use native.Mathlib.Nat.{le-antisymm}
@@ -76,7 +76,7 @@ returns-2 c =
     let a = c .before .before .before .before .before .before .args in
     let l = c .before .loop in
     let all : length (a .bytes .now) ≡ l .i = omega arith in
-    written-fits _ _ _ (search needs) (rw all (l .inv .3))
+    written-fits _ _ _ (search needs) (rw all (l .inv .3)) refl
 
 pub put-bytes-spec : {M : Type 1} → statement M
 put-bytes-spec =
