@@ -1,15 +1,15 @@
 -- What a text leaves that is put at a place: where it fits, where it doesn't, and two texts, one behind the other.
 -- Assumes nothing.
 use mathlib.Core.Path.{_≡_, sym, ap, _∙_}
-use mathlib.Core.List.{List, _++_, append-assoc}
-use Prim.Native.Nat.{ℕ, _+_, _≤_, _<_, min}
+use mathlib.Core.List.{List, [], _∷_, _++_, append-assoc}
+use Prim.Native.Nat.{ℕ, _+_, _-_, _≤_, _<_, min}
 use native.Mathlib.Nat.{le-refl, add-assoc}
 use native.Mathlib.Omega.{arith}
-use lib.ListN.{length, take, length-append}
-use lib.Seq.{paste, length-paste, take-paste, drop-paste, take-length, drop-drop}
+use lib.ListN.{length, take, replicate, length-append, length-replicate, replicate-append-replicate}
+use lib.Seq.{paste, paste-zero, length-paste, take-paste, drop-paste, take-length, drop-drop}
 use borrow.Author.Tests.{le-leb, lt-leb}
 use Rattle.io.proofs.Counting.{counts}
-use Rattle.text.specs.Put.{put, putEnd, Written}
+use Rattle.text.specs.Put.{put, putEnd, Written, rightText}
 
 module _ (out : List ℕ) (at : ℕ) (bytes : List ℕ) where
   -- a text that doesn't fit is left out
@@ -72,3 +72,27 @@ module _ (out : List ℕ) (at : ℕ) (xs ys : List ℕ) (fits : at + length xs +
       written-fits out at (xs ++ ys) (omega (arith, length-append xs ys))
       (fits-buffer held (at + length xs) ys second moved ∙ paste-append)
       (omega (arith, length-append xs ys, fits-place held (at + length xs) ys second moved))
+
+-- nothing put leaves all as it is
+pub written-none : (out : List ℕ) (at : ℕ) → at ≤ length out → Written out at [] out at
+written-none out at h = written-fits out at [] (omega arith) (paste-zero out at []) (omega arith)
+
+-- one more of the same byte
+pub written-more : (out : List ℕ) (at byte i : ℕ) {mid after : List ℕ} {place end : ℕ} → at + i < length out
+    → Written out at (replicate i byte) mid place → Written mid place (byte ∷ []) after end
+    → Written out at (replicate (i + 1) byte) after end
+written-more out at byte i h w v =
+    rw (← replicate-append-replicate i 1 byte)
+    (written-append out at (replicate i byte) (byte ∷ []) (omega (arith, length-replicate i byte)) w v)
+
+pub length-right : (width fill : ℕ) (bytes : List ℕ) → length (rightText width fill bytes) ≡ width - length bytes + length bytes
+unfolding rightText
+length-right width fill bytes = simp (length-append, length-replicate)
+
+-- the bytes behind their fill
+pub written-right : (out : List ℕ) (at width fill : ℕ) (bytes : List ℕ) (gap : ℕ) {mid after : List ℕ} {place end : ℕ}
+    → gap ≡ width - length bytes → at + gap + length bytes ≤ length out → Written out at (replicate gap fill) mid place
+    → Written mid place bytes after end → Written out at (rightText width fill bytes) after end
+unfolding rightText
+written-right out at width fill bytes gap e h w v =
+    rw (← e) (written-append out at (replicate gap fill) bytes (omega (arith, length-replicate gap fill)) w v)

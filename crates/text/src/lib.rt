@@ -3,34 +3,19 @@ mod number;
 
 pub use number::put_number;
 ghost use mathlib.Core.Path.{_≡_};
-ghost use Prim.Native.Nat.{_+_, min};
+ghost use Prim.Native.Nat.{_-_};
 ghost use mathlib.Core.List.{[], _∷_};
-ghost use lib.Dec.{leb};
-ghost use Rattle.text.specs.Put.{Written};
-
-// Whether `count` bytes fit from `at` to the end of a buffer of `len`.
-fn room(len: usize, at: usize, count: usize) -> bool
-    ensures { λ r. ⌜ r ≡ leb (at + count) len ⌝ }
-{
-    if at > len {
-        return false;
-    }
-    count <= len - at
-}
-
-// Where a text is left out: the place itself, or the end of the buffer if that comes first.
-fn kept(len: usize, at: usize) -> usize
-    ensures { λ r. ⌜ r ≡ min at len ⌝ }
-{
-    if at < len { at } else { len }
-}
+ghost use Rattle.text.specs.Put.{Written, rightText};
 
 // Puts the bytes at `at` and answers the place behind them; bytes that run past the end are left out.
 pub fn put_bytes(out: &mut [u8], at: usize, bytes: &[u8]) -> usize
     ensures { λ r. ⌜ Written (now (out .entry)) at (now (bytes .entry)) (now (out .exit)) r ⌝ }
 {
-    if !room(out.len(), at, bytes.len()) {
-        return kept(out.len(), at);
+    if at > out.len() {
+        return out.len();
+    }
+    if bytes.len() > out.len() - at {
+        return at;
     }
     let mut i = 0;
     while i < bytes.len() {
@@ -46,4 +31,31 @@ pub fn put_byte(out: &mut [u8], at: usize, byte: u8) -> usize
 {
     let one = [byte];
     put_bytes(out, at, &one)
+}
+
+// Puts the bytes with as many of `fill` in front as make them `width` bytes.
+pub fn put_right(out: &mut [u8], at: usize, bytes: &[u8], width: usize, fill: u8) -> usize
+    ensures { λ r. ⌜ Written (now (out .entry)) at (rightText width fill (now (bytes .entry))) (now (out .exit)) r ⌝ }
+{
+    let gap = less(width, bytes.len());
+    if at > out.len() {
+        return out.len();
+    }
+    if gap + bytes.len() > out.len() - at {
+        return at;
+    }
+    let mut place = at;
+    let mut i = 0;
+    while i < gap {
+        place = put_byte(out, place, fill);
+        i += 1;
+    }
+    put_bytes(out, place, bytes)
+}
+
+// How much `a` is over `b`: 0 where it is not.
+fn less(a: usize, b: usize) -> usize
+    ensures { λ r. ⌜ r ≡ a - b ⌝ }
+{
+    if a < b { 0 } else { a - b }
 }

@@ -9,7 +9,6 @@ use native.Mathlib.Omega.{arith}
 use lib.ListN.{length, getD, set}
 use lib.Seq.{paste, paste-zero, paste-suc}
 use borrow.Author.Needs.{needs}
-use borrow.Author.Tests.{leb-true, leb-false, not-true, not-false}
 use Rattle.text.proofs.Puts.{written-fits, written-past}
 use Rattle.text.proofs.put_bytes.Statement.{statement}
 use Rattle.text.proofs.put_bytes.Tie as tie
@@ -30,19 +29,19 @@ copied-more :
     → set now (at + i) (getD bytes i 0) ≡ paste out at bytes (i + 1)
 copied-more out at bytes i h k e = rw (add-one i, e) (paste-suc out at bytes i 0 h k)
 
-room-requires : tie.Need-room-requires Inv-loop μ-loop
-room-requires c κs = search needs
-
-kept-requires : tie.Need-kept-requires Inv-loop μ-loop
-kept-requires c κs = search needs
-
 returns : tie.Need-returns Inv-loop μ-loop
-returns c = written-past _ _ _ (leb-false _ _ (sym (c .before .before .room .ensures) ∙ not-true _ (c .before .if1 .taken))) (c .kept .ensures)
+returns c = written-past _ _ _ (omega arith) (omega arith)
+
+sub-if2 : tie.Need-sub-if2 Inv-loop μ-loop
+sub-if2 c = search needs
+
+returns-2 : tie.Need-returns-2 Inv-loop μ-loop
+returns-2 c = written-past _ _ _ (omega arith) (omega arith)
 
 loop-holds : tie.Need-loop-holds Inv-loop μ-loop
 loop-holds c =
-    let a = c .before .before .before .before .args in
-    (search needs, leb-true _ _ (sym (c .before .room .ensures) ∙ not-false _ (c .if1 .left)), search needs, paste-zero (a .out .now) (a .at) (a .bytes .now))
+    let a = c .before .before .args in
+    (search needs, search needs, search needs, paste-zero (a .out .now) (a .at) (a .bytes .now))
 
 shared-slice-read-out : tie.Need-shared-slice-read-out Inv-loop μ-loop
 shared-slice-read-out c = search needs
@@ -61,7 +60,7 @@ loop-less c = search needs
 
 loop-again : tie.Need-loop-again Inv-loop μ-loop
 loop-again c =
-    let a = c .before .before .before .before .before .before .before .args in
+    let a = c .before .before .before .before .before .args in
     let l = c .before .before .loop in
     (search needs, search needs, search needs, copied-more (a .out .now) (a .at) (a .bytes .now) (l .i) (omega arith) (omega arith) (l .inv .3))
 
@@ -71,9 +70,9 @@ add-result c = search needs
 same-length : tie.Need-same-length Inv-loop μ-loop
 same-length c = search needs
 
-returns-2 : tie.Need-returns-2 Inv-loop μ-loop
-returns-2 c =
-    let a = c .before .before .before .before .before .before .args in
+returns-3 : tie.Need-returns-3 Inv-loop μ-loop
+returns-3 c =
+    let a = c .before .before .before .before .args in
     let l = c .before .loop in
     let all : length (a .bytes .now) ≡ l .i = omega arith in
     written-fits _ _ _ (search needs) (rw all (l .inv .3)) refl
@@ -84,9 +83,9 @@ put-bytes-spec =
     (tie.spec
     Inv-loop
     μ-loop
-    room-requires
-    kept-requires
     returns
+    sub-if2
+    returns-2
     loop-holds
     shared-slice-read-out
     add-out
@@ -96,4 +95,4 @@ put-bytes-spec =
     loop-again
     add-result
     same-length
-    returns-2)
+    returns-3)
