@@ -1,15 +1,18 @@
--- What a text leaves that is put at a place: where it fits, where it doesn't, and two texts, one behind the other.
+-- What a text leaves that is put at a place.
+--
+-- In order: a text that doesn't fit, one that fits, two texts, one behind the other, no text, what then stands at the front,
+-- and that a text leaves one outcome.
 -- Assumes nothing.
 use mathlib.Core.Path.{_≡_, sym, ap, _∙_}
-use mathlib.Core.List.{List, [], _∷_, _++_, append-assoc}
-use Prim.Native.Nat.{ℕ, _+_, _-_, _≤_, _<_, min}
+use mathlib.Core.List.{List, [], _++_, append-assoc}
+use Prim.Native.Nat.{ℕ, _+_, _≤_, _<_, min}
 use native.Mathlib.Nat.{le-refl, add-assoc}
 use native.Mathlib.Omega.{arith}
-use lib.ListN.{length, take, replicate, length-append, length-replicate, replicate-append-replicate}
+use lib.ListN.{length, take, length-append}
 use lib.Seq.{paste, paste-zero, length-paste, take-paste, drop-paste, take-length, drop-drop}
 use borrow.Author.Tests.{le-leb, lt-leb}
 use Rattle.io.proofs.Counting.{counts}
-use Rattle.text.specs.Put.{put, putEnd, Written, rightText}
+use Rattle.text.specs.Put.{put, putEnd, Written}
 
 module _ (out : List ℕ) (at : ℕ) (bytes : List ℕ) where
   -- a text that doesn't fit is left out
@@ -67,7 +70,7 @@ module _ (out : List ℕ) (at : ℕ) (xs ys : List ℕ) (fits : at + length xs +
       let first : at + length xs ≤ length out = omega arith in
       let held : List ℕ = paste out at xs (length xs) in
       let moved : Written held (at + length xs) ys after end =
-          rw (fits-buffer out at xs first w, fits-place out at xs first w) at v in
+      rw (fits-buffer out at xs first w, fits-place out at xs first w) at v in
       let second : at + length xs + length ys ≤ length held = omega (arith, length-put-fits out at xs first) in
       written-fits out at (xs ++ ys) (omega (arith, length-append xs ys))
       (fits-buffer held (at + length xs) ys second moved ∙ paste-append)
@@ -77,22 +80,14 @@ module _ (out : List ℕ) (at : ℕ) (xs ys : List ℕ) (fits : at + length xs +
 pub written-none : (out : List ℕ) (at : ℕ) → at ≤ length out → Written out at [] out at
 written-none out at h = written-fits out at [] (omega arith) (paste-zero out at []) (omega arith)
 
--- one more of the same byte
-pub written-more : (out : List ℕ) (at byte i : ℕ) {mid after : List ℕ} {place end : ℕ} → at + i < length out
-    → Written out at (replicate i byte) mid place → Written mid place (byte ∷ []) after end
-    → Written out at (replicate (i + 1) byte) after end
-written-more out at byte i h w v =
-    rw (← replicate-append-replicate i 1 byte)
-    (written-append out at (replicate i byte) (byte ∷ []) (omega (arith, length-replicate i byte)) w v)
+-- what stands at the front, where the bytes were put there
+pub written-taken : (out bytes : List ℕ) {after : List ℕ} {end : ℕ} → length bytes ≤ length out → Written out 0 bytes after end
+    → take end after ≡ bytes
+written-taken out bytes h w =
+    let fits : 0 + length bytes ≤ length out = omega arith in
+    rw (fits-buffer out 0 bytes fits w, fits-place out 0 bytes fits w)
+    (take-paste out 0 bytes (length bytes) (omega arith) (le-refl _) ∙ take-length bytes)
 
-pub length-right : (width fill : ℕ) (bytes : List ℕ) → length (rightText width fill bytes) ≡ width - length bytes + length bytes
-unfolding rightText
-length-right width fill bytes = simp (length-append, length-replicate)
-
--- the bytes behind their fill
-pub written-right : (out : List ℕ) (at width fill : ℕ) (bytes : List ℕ) (gap : ℕ) {mid after : List ℕ} {place end : ℕ}
-    → gap ≡ width - length bytes → at + gap + length bytes ≤ length out → Written out at (replicate gap fill) mid place
-    → Written mid place bytes after end → Written out at (rightText width fill bytes) after end
-unfolding rightText
-written-right out at width fill bytes gap e h w v =
-    rw (← e) (written-append out at (replicate gap fill) bytes (omega (arith, length-replicate gap fill)) w v)
+-- the bytes and their place leave one outcome
+pub written-alone : {out bytes a b : List ℕ} {at i j : ℕ} → Written out at bytes a i → Written out at bytes b j → (a ≡ b) × (i ≡ j)
+written-alone w v = (w .buffer ∙ sym (v .buffer), w .place ∙ sym (v .place))

@@ -1,13 +1,18 @@
 // Lines of text in one buffer, so that a program writes once.
+//
+// Each function puts a text at a place, all of it where it fits from there to the end and else nothing, and answers the place
+// behind it. No place that is answered lies past the end, so a caller goes on from it, and lends `&out[..at]`, with no test.
 mod number;
 
+pub use number::put_decimal;
 pub use number::put_number;
+pub use number::put_padded;
 ghost use mathlib.Core.Path.{_≡_};
 ghost use Prim.Native.Nat.{_-_};
 ghost use mathlib.Core.List.{[], _∷_};
 ghost use Rattle.text.specs.Put.{Written, rightText};
 
-// Puts the bytes at `at` and answers the place behind them; bytes that run past the end are left out.
+// Puts bytes.
 pub fn put_bytes(out: &mut [u8], at: usize, bytes: &[u8]) -> usize
     ensures { λ r. ⌜ Written (now (out .entry)) at (now (bytes .entry)) (now (out .exit)) r ⌝ }
 {
@@ -33,7 +38,7 @@ pub fn put_byte(out: &mut [u8], at: usize, byte: u8) -> usize
     put_bytes(out, at, &one)
 }
 
-// Puts the bytes with as many of `fill` in front as make them `width` bytes.
+// Puts bytes with as many of `fill` in front as make them `width` bytes.
 pub fn put_right(out: &mut [u8], at: usize, bytes: &[u8], width: usize, fill: u8) -> usize
     ensures { λ r. ⌜ Written (now (out .entry)) at (rightText width fill (now (bytes .entry))) (now (out .exit)) r ⌝ }
 {
@@ -53,7 +58,7 @@ pub fn put_right(out: &mut [u8], at: usize, bytes: &[u8], width: usize, fill: u8
     put_bytes(out, place, bytes)
 }
 
-// How much `a` is over `b`: 0 where it is not.
+// By how much `a` is over `b`: 0 where it isn't.
 fn less(a: usize, b: usize) -> usize
     ensures { λ r. ⌜ r ≡ a - b ⌝ }
 {

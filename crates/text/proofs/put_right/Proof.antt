@@ -6,7 +6,8 @@ use native.Mathlib.Omega.{arith}
 use lib.ListN.{length, replicate}
 use borrow.Author.Needs.{needs}
 use Rattle.text.specs.Put.{Written}
-use Rattle.text.proofs.Puts.{written-past, written-none, written-more, written-right, length-right}
+use Rattle.text.proofs.Puts.{written-past, written-none}
+use Rattle.text.proofs.Fills.{length-right, written-more, written-right}
 use Rattle.text.proofs.put_right.Statement.{statement}
 use Rattle.text.proofs.put_right.Tie as tie
 
@@ -18,7 +19,7 @@ abbrev μ-loop : tie.MeasureT-loop
 μ-loop out₀ at bytes width fill gap place₀ i₀ out place i = gap - i
 
 less-requires : tie.Need-less-requires Inv-loop μ-loop
-less-requires c κs = search needs
+less-requires c κs = tt
 
 returns : tie.Need-returns Inv-loop μ-loop
 returns c =
@@ -42,7 +43,7 @@ loop-holds : tie.Need-loop-holds Inv-loop μ-loop
 loop-holds c = (search needs, search needs, written-none _ _ (omega arith))
 
 put-byte-requires : tie.Need-put-byte-requires Inv-loop μ-loop
-put-byte-requires c κs = search needs
+put-byte-requires c κs = tt
 
 add-i : tie.Need-add-i Inv-loop μ-loop
 add-i c = search needs
@@ -56,7 +57,7 @@ loop-again c =
     (search needs, search needs, written-more _ _ _ (l .i) (omega arith) (l .inv .2) (c .before .before .put-byte .ensures))
 
 put-bytes-requires : tie.Need-put-bytes-requires Inv-loop μ-loop
-put-bytes-requires c κs = search needs
+put-bytes-requires c κs = tt
 
 same-length : tie.Need-same-length Inv-loop μ-loop
 same-length c = search needs
