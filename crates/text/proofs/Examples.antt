@@ -1,7 +1,7 @@
 -- Texts as the definitions give them, written out: 0, 37500, 374.50 and 0.005; and 12 put into five bytes, and left out of one.
 -- Assumes nothing.
 use mathlib.Core.Path.{_≡_, refl}
-use mathlib.Core.List.{List, [], _∷_}
+use mathlib.Core.List.{[], _∷_}
 use Rattle.text.specs.Put.{put, rightText}
 use Rattle.text.specs.Number.{digitCount, numberText, decimalText}
 

@@ -1,9 +1,8 @@
 -- `put_bytes` copies the bytes to their place, one a turn, where they fit.
 -- Assumes nothing.
-use mathlib.Core.Path.{_≡_, refl, sym, _∙_}
+use mathlib.Core.Path.{_≡_, refl}
 use mathlib.Core.List.{List}
 use Prim.Native.Nat.{ℕ, _+_, _-_, _≤_, _<_}
-use native.Mathlib.Nat.{le-antisymm}
 use native.Mathlib.Numerals.{add-one}
 use native.Mathlib.Omega.{arith}
 use lib.ListN.{length, getD, set}
@@ -25,8 +24,8 @@ abbrev μ-loop : tie.MeasureT-loop
 
 -- a turn copies one byte more
 copied-more :
-    (out : List ℕ) (at : ℕ) (bytes : List ℕ) (i : ℕ) {now : List ℕ} → at + i < length out → i < length bytes → now ≡ paste out at bytes i
-    → set now (at + i) (getD bytes i 0) ≡ paste out at bytes (i + 1)
+    (out : List ℕ) (at : ℕ) (bytes : List ℕ) (i : ℕ) {now : List ℕ} → at + i < length out → i < length bytes
+    → now ≡ paste out at bytes i → set now (at + i) (getD bytes i 0) ≡ paste out at bytes (i + 1)
 copied-more out at bytes i h k e = rw (add-one i, e) (paste-suc out at bytes i 0 h k)
 
 returns : tie.Need-returns Inv-loop μ-loop
@@ -62,7 +61,8 @@ loop-again : tie.Need-loop-again Inv-loop μ-loop
 loop-again c =
     let a = c .before .before .before .before .before .args in
     let l = c .before .before .loop in
-    (search needs, search needs, search needs, copied-more (a .out .now) (a .at) (a .bytes .now) (l .i) (omega arith) (omega arith) (l .inv .3))
+    let copied = copied-more (a .out .now) (a .at) (a .bytes .now) (l .i) (omega arith) (omega arith) (l .inv .3) in
+    (search needs, search needs, search needs, copied)
 
 add-result : tie.Need-add-result Inv-loop μ-loop
 add-result c = search needs
