@@ -1,0 +1,5 @@
+pub mod Puts
+pub mod Fills
+pub mod DigitCounts
+pub mod Numbers
+pub mod Examples

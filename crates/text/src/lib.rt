@@ -1,0 +1,66 @@
+// Lines of text in one buffer, so that a program writes once.
+//
+// Each function puts a text at a place, all of it where it fits from there to the end and else nothing, and answers the place
+// behind it. No place that is answered lies past the end, so a caller goes on from it, and lends `&out[..at]`, with no test.
+mod number;
+
+pub use number::put_decimal;
+pub use number::put_number;
+pub use number::put_padded;
+ghost use mathlib.Core.Path.{_≡_};
+ghost use Prim.Native.Nat.{_-_};
+ghost use mathlib.Core.List.{[], _∷_};
+ghost use Rattle.text.specs.Put.{Written, rightText};
+
+// Puts bytes.
+pub fn put_bytes(out: &mut [u8], at: usize, bytes: &[u8]) -> usize
+    ensures { λ r. ⌜ Written (now (out .entry)) at (now (bytes .entry)) (now (out .exit)) r ⌝ }
+{
+    if at > out.len() {
+        return out.len();
+    }
+    if bytes.len() > out.len() - at {
+        return at;
+    }
+    let mut i = 0;
+    while i < bytes.len() {
+        out[at + i] = bytes[i];
+        i += 1;
+    }
+    at + bytes.len()
+}
+
+// Puts one byte.
+pub fn put_byte(out: &mut [u8], at: usize, byte: u8) -> usize
+    ensures { λ r. ⌜ Written (now (out .entry)) at (byte ∷ []) (now (out .exit)) r ⌝ }
+{
+    let one = [byte];
+    put_bytes(out, at, &one)
+}
+
+// Puts bytes with as many of `fill` in front as make them `width` bytes.
+pub fn put_right(out: &mut [u8], at: usize, bytes: &[u8], width: usize, fill: u8) -> usize
+    ensures { λ r. ⌜ Written (now (out .entry)) at (rightText width fill (now (bytes .entry))) (now (out .exit)) r ⌝ }
+{
+    let gap = less(width, bytes.len());
+    if at > out.len() {
+        return out.len();
+    }
+    if gap + bytes.len() > out.len() - at {
+        return at;
+    }
+    let mut place = at;
+    let mut i = 0;
+    while i < gap {
+        place = put_byte(out, place, fill);
+        i += 1;
+    }
+    put_bytes(out, place, bytes)
+}
+
+// By how much `a` is over `b`: 0 where it isn't.
+fn less(a: usize, b: usize) -> usize
+    ensures { λ r. ⌜ r ≡ a - b ⌝ }
+{
+    if a < b { 0 } else { a - b }
+}
