@@ -21,3 +21,5 @@ pub mod Products
 pub mod Fills
 pub mod Ways
 pub mod Filling
+pub mod Keys
+pub mod FilledRows

@@ -57,10 +57,12 @@ module _ (key : ℕ → ℕ) (rest : ℕ → ℕ → Bool) where
   pub thenBy-lower : (i j : ℕ) → key i < key j → thenBy key rest i j ≡ true
   thenBy-lower i j l = rw (lt-ltb (key i) (key j) l)
 
-  thenBy-higher : (i j : ℕ) → key j < key i → thenBy key rest i j ≡ false
+  -- the higher key does not
+  pub thenBy-higher : (i j : ℕ) → key j < key i → thenBy key rest i j ≡ false
   thenBy-higher i j l = rw (le-ltb (key i) (key j) (omega arith), ne-eqb (key i) (key j) (omega arith))
 
-  thenBy-equal : (i j : ℕ) → key i ≡ key j → thenBy key rest i j ≡ rest i j
+  -- among equal keys the rest decides
+  pub thenBy-equal : (i j : ℕ) → key i ≡ key j → thenBy key rest i j ≡ rest i j
   thenBy-equal i j e = rw (le-ltb (key i) (key j) (omega arith), eq-eqb (key i) (key j) e)
 
   -- what stands before another has the lower key, or an equal key and comes first in the rest
