@@ -1,1 +1,3 @@
 pub mod Out
+pub mod Parts
+pub mod Steps
