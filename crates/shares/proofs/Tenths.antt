@@ -1,0 +1,64 @@
+-- Parts and the spare tenths won: together they fit 32 bits, and they are what the rows clear.
+-- Assumes nothing.
+use mathlib.Core.Path.{_≡_, ap₂, _∙_}
+use mathlib.Core.Bool.{Bool, true, false, cond}
+use mathlib.Core.List.{List}
+use Prim.Native.Nat.{ℕ, _+_, _≤_, _<_, zero-le}
+use native.Mathlib.Nat.{le-refl}
+use native.Mathlib.Omega.{arith}
+use lib.ListN.{length, getD}
+use Rattle.laws.specs.Filled.{filled}
+use Rattle.laws.proofs.Fills.{filled-ext}
+use Rattle.auction.specs.Offers.{Offers}
+use Rattle.auction.specs.Shares.{cleared}
+use Rattle.market.specs.declared.margin.Level.{Level}
+use Rattle.market.specs.Rows.{rowsOf}
+use Rattle.spares.specs.Contest.{wins, contenders, inOrder}
+use Rattle.spares.specs.Award.{Awarded}
+use Rattle.shares.specs.Parts.{rowKey, rowStanding}
+use Rattle.shares.specs.Steps.{Parted, Adds}
+use Rattle.shares.proofs.Sharing.{part-share}
+use Rattle.shares.proofs.Holding.{parts-rows}
+use Rattle.shares.proofs.Contending.{cleared-won}
+
+bit-most : (t : Bool) → cond t 1 0 ≤ 1
+bit-most true = le-refl 1
+bit-most false = zero-le
+
+-- a standing by a test is at most 1
+pub standing-most : (t : Bool) (v : ℕ) → v ≡ cond t 1 0 → v ≤ 1
+standing-most t v e = rw e (bit-most t)
+
+module _ (prices quantities highs lows resources : List ℕ) (n : ℕ) (l : Level) where
+  abbrev rows : Offers
+  rows = rowsOf prices quantities highs lows resources n
+
+  module _ (spare : ℕ) (out : List ℕ) (p : Parted prices quantities highs lows resources n l spare out)
+      (keys standings tenths : List ℕ) (won : Awarded keys highs lows resources standings n spare tenths) where
+    -- a row's part and the tenth that it may have won fit
+    pub won-adds : n ≤ length tenths → Adds tenths n out
+    won-adds h =
+        record {
+          given = h;
+          long = p .holds .long;
+          fits = λ i k.
+              omega (
+                arith,
+                parts-rows prices quantities n l (p .divides) out (p .holds) .small i k,
+                won .within i k,
+                bit-most (wins (contenders standings) (inOrder keys highs lows resources) n spare i),
+              );
+        }
+
+    -- the parts and the tenths won are what clears
+    pub won-cleared : (after : List ℕ) → ((i : ℕ) → i < n → getD lows i 0 < 4294967296)
+        → ((i : ℕ) → i < n → getD keys i 0 ≡ rowKey l prices quantities i)
+        → ((i : ℕ) → i < n → getD standings i 0 ≡ rowStanding l prices i)
+        → after ≡ filled (λ i. getD out i 0 + getD tenths i 0) n out → after ≡ filled (cleared rows (l .total)) n out
+    won-cleared after halves keyed standing added =
+        let s = p .stopped in
+        added
+        ∙ filled-ext _ _ n out
+        (λ i h.
+        ap₂ _+_ (p .holds .row i h ∙ part-share rows l s i h) (won .within i h)
+        ∙ cleared-won prices quantities highs lows resources n l s halves keys keyed standings spare standing (p .tenths) i h)

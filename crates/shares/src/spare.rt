@@ -1,0 +1,88 @@
+// The spare tenths of the level at which a total stops: one each to the first in the order.
+use crate::share::exact;
+use market::margin::Level;
+use spares::award;
+ghost use mathlib.Core.Path.{_≡_};
+ghost use mathlib.Core.Bool.{cond};
+ghost use Prim.Native.Nat.{_+_, _≤_};
+ghost use lib.ListN.{length, getD};
+ghost use lib.Dec.{eqb};
+ghost use Rattle.laws.specs.Filled.{filled};
+ghost use Rattle.auction.specs.Shares.{cleared};
+ghost use Rattle.market.specs.Rows.{rowsOf};
+ghost use Rattle.shares.specs.Parts.{partOf, keyOf, rowKey, rowStanding};
+ghost use Rattle.shares.specs.Steps.{Divides, DividesRows, HoldsParts, Parted, Adds};
+
+// A row's key in the order of spare tenths: the lower the more rounding down left, 0 away from the level.
+fn key(price: u32, quantity: u32, share: u32, level: Level) -> u32
+    requires { ⌜ Divides level price quantity ⌝ }
+    requires { ⌜ share ≡ partOf level price quantity ⌝ }
+    ensures { λ r. ⌜ r ≡ keyOf level price quantity ⌝ }
+{
+    if price == level.price {
+        let left = exact(quantity, level.amount) - share as u64 * level.sum as u64;
+        return level.sum - left as u32;
+    }
+    0
+}
+
+// 1 for a row at the level, else 0.
+fn standing(price: u32, level: u32) -> u32
+    ensures { λ r. ⌜ r ≡ cond (eqb price level) 1 0 ⌝ }
+{
+    if price == level { 1 } else { 0 }
+}
+
+// Lines the rows of the level up for its spare tenths: each row's key, and who contends.
+fn line_up(
+    prices: &[u32],
+    quantities: &[u32],
+    shares: &[u32],
+    n: usize,
+    level: Level,
+    keys: &mut [u32],
+    standings: &mut [u32],
+)
+    requires { ⌜ DividesRows level (now prices) (now quantities) n ⌝ }
+    requires { ⌜ HoldsParts level (now prices) (now quantities) n (now shares) ⌝ }
+    requires { ⌜ (n ≤ length (now keys)) × (n ≤ length (now standings)) ⌝ }
+    ensures { λ _. ⌜ now (keys .exit) ≡ filled (rowKey level (now (prices .entry)) (now (quantities .entry))) n (now (keys .entry)) ⌝ }
+    ensures { λ _. ⌜ now (standings .exit) ≡ filled (rowStanding level (now (prices .entry))) n (now (standings .entry)) ⌝ }
+{
+    for row in 0..n {
+        keys[row] = key(prices[row], quantities[row], shares[row], level);
+        standings[row] = standing(prices[row], level.price);
+    }
+}
+
+// Adds to each row the tenths that it won.
+fn add(tenths: &[u32], n: usize, out: &mut [u32])
+    requires { ⌜ Adds (now tenths) n (now out) ⌝ }
+    ensures { λ _. ⌜ now (out .exit) ≡ filled (λ i. getD (now (out .entry)) i 0 + getD (now (tenths .entry)) i 0) n (now (out .entry)) ⌝ }
+{
+    for row in 0..n {
+        out[row] += tenths[row];
+    }
+}
+
+// Gives the level's spare tenths, one each to the first in the order.
+pub fn give(
+    prices: &[u32],
+    quantities: &[u32],
+    highs: &[u32],
+    lows: &[u32],
+    resources: &[u32],
+    n: usize,
+    level: Level,
+    spare: u32,
+    out: &mut [u32],
+)
+    requires { ⌜ Parted (now prices) (now quantities) (now highs) (now lows) (now resources) n level spare (now out) ⌝ }
+    ensures { λ _. ⌜ now (out .exit) ≡ filled (cleared (rowsOf (now (prices .entry)) (now (quantities .entry)) (now (highs .entry)) (now (lows .entry)) (now (resources .entry)) n) (level .total)) n (now (out .entry)) ⌝ }
+{
+    let mut keys = [0u32; 600];
+    let mut standings = [0u32; 600];
+    line_up(prices, quantities, out, n, level, &mut keys, &mut standings);
+    award(&keys, highs, lows, resources, &mut standings, n, spare);
+    add(&standings, n, out);
+}
