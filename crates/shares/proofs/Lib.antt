@@ -2,5 +2,7 @@ pub mod RowParts
 pub mod Stopping
 pub mod Sharing
 pub mod Contending
+pub mod Given
 pub mod Holding
 pub mod Tenths
+pub mod Outcome

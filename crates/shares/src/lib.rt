@@ -1,3 +1,58 @@
 // What each row clears of a total: whole under the level at which the total stops, nothing over it, and at it a share.
 mod share;
 mod spare;
+
+use crate::share::parts;
+use crate::spare::give;
+use market::margin::Level;
+use market::margin::supply_below;
+use market::supply::supply_at;
+ghost use mathlib.Core.Path.{_≡_};
+ghost use Prim.Native.Nat.{_≤_};
+ghost use lib.ListN.{length};
+ghost use Rattle.auction.specs.Offers.{levelSum};
+ghost use Rattle.market.specs.Rows.{Rows, listed, rowsOf};
+ghost use Rattle.market.specs.Stop.{StopsAt};
+ghost use Rattle.shares.specs.Out.{SharedOut, Ordered};
+
+// What the rows at a price hold together.
+fn held_at(prices: &[u32], shares: &[u32], n: usize, price: u32) -> u32
+    requires { ⌜ Rows (now prices) (now shares) n ⌝ }
+    ensures { λ r. ⌜ r ≡ levelSum (listed (now (prices .entry)) (now (shares .entry)) n) price ⌝ }
+{
+    supply_at(prices, shares, n, price) - supply_below(prices, shares, n, price)
+}
+
+// Writes what each of n rows clears of the total that stops at the level, and leaves what stands past them.
+pub fn share_out(
+    prices: &[u32],
+    quantities: &[u32],
+    highs: &[u32],
+    lows: &[u32],
+    resources: &[u32],
+    n: usize,
+    level: Level,
+    out: &mut [u32],
+)
+    requires { ⌜ Rows (now prices) (now quantities) n ⌝ }
+    requires { ⌜ Ordered (now quantities) (now highs) (now lows) (now resources) n ⌝ }
+    requires { ⌜ n ≤ length (now out) ⌝ }
+    requires { ⌜ StopsAt (listed (now prices) (now quantities) n) (level .total) level ⌝ }
+    ensures { λ _. ⌜ SharedOut (rowsOf (now (prices .entry)) (now (quantities .entry)) (now (highs .entry)) (now (lows .entry)) (now (resources .entry)) n) (level .total) (now (out .entry)) (now (out .exit)) ⌝ }
+{
+    parts(prices, quantities, n, level, out);
+    let spare = level.amount - held_at(prices, out, n, level.price);
+    if 0 < spare {
+        give(
+            prices,
+            quantities,
+            highs,
+            lows,
+            resources,
+            n,
+            level,
+            spare,
+            out,
+        );
+    }
+}
