@@ -16,7 +16,7 @@ use Rattle.settle.specs.Read.{optional}
 use Rattle.layout.specs.Form.{offerCount}
 use Rattle.layout.specs.Read.{bookParameters, bookOffer}
 use Rattle.book.specs.Faults.{firstFault}
-use Rattle.book.proofs.Accepted.{accepted-inside, accepted-in-range, accepted-priced}
+use Rattle.book.proofs.Accepted.{accepted-inside, accepted-in-range, accepted-priced, accepted-distinct}
 use Rattle.ozpinduru.specs.Auction.{termsOf}
 use Rattle.ozpinduru.specs.Sale.{Clearable}
 
@@ -45,5 +45,6 @@ accepted-clearable b a =
       priced = λ row l. accepted-priced b a row l .price-most;
       offered = λ row l. accepted-priced b a row l .sound .quantity-from;
       small = λ row l. accepted-priced b a row l .sound .quantity-to;
+      distinct = accepted-distinct b a;
       blocks = λ row l block e. accepted-priced b a row l .sound .block-to block (optional-given _ block e)
     }

@@ -49,6 +49,13 @@ abbrev pub bufferBy : Verdict → List ℕ → List ℕ → List ℕ
 bufferBy Passed before after = after
 bufferBy (Refused number place) before after = before
 
+-- an accepted book cleared into two buffers: the clearing, and each row's cleared and committed tenths; entries past the last
+-- row are not touched
+pub record ClearedInto (b cleared committed : List ℕ) (c : Clearing) (cleared′ committed′ : List ℕ) : Type 0 where
+  pub clearing : c ≡ clearingOf b (bookParameters b)
+  pub cleared-holds : cleared′ ≡ filled (rowCleared b (bookParameters b)) (offerCount b) cleared
+  pub committed-holds : committed′ ≡ filled (rowCommitted b (bookParameters b)) (offerCount b) committed
+
 -- The outcome of a call: the answer, and both buffers as it leaves them. Each row has its cleared and its committed tenths;
 -- entries past the last row are not touched.
 pub record Outcome (b cleared committed : List ℕ) (answer : Answer) (cleared′ committed′ : List ℕ) : Type 0 where

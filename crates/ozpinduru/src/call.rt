@@ -1,14 +1,19 @@
 // The call: a book of bytes and two result buffers.
-use crate::Answer;
+use crate::{Answer, Clearing};
 use crate::payment::{clearing, commit};
+use block::SIZE;
 use book::verdict;
 use columns::fill::fill;
 use layout::reader::offer_count;
 use values::Verdict;
 use values::head::parameters_in;
 ghost use mathlib.Core.Path.{_≡_};
+ghost use Prim.Native.Nat.{_≤_};
 ghost use lib.ListN.{length};
-ghost use Rattle.ozpinduru.specs.Answer.{Outcome, callFault};
+ghost use Rattle.values.specs.declared.Verdict.the-variants.{Passed};
+ghost use Rattle.layout.specs.Form.{offerCount};
+ghost use Rattle.book.specs.Faults.{firstFault};
+ghost use Rattle.ozpinduru.specs.Answer.{Outcome, ClearedInto, callFault};
 
 // The first fault of a call with result buffers of these lengths: the book's own, then 9 at the buffer that is too short.
 pub fn call_fault(book: &[u8], cleared: usize, committed: usize) -> Verdict
@@ -27,6 +32,22 @@ pub fn call_fault(book: &[u8], cleared: usize, committed: usize) -> Verdict
     Verdict::Passed
 }
 
+// Clears an accepted book into buffers that are long enough.
+fn clear_accepted(book: &[u8], cleared: &mut [u32], committed: &mut [u32]) -> Clearing
+    requires { ⌜ firstFault (now book) ≡ Passed ⌝ }
+    requires { ⌜ offerCount (now book) ≤ length (now cleared) ⌝ }
+    requires { ⌜ offerCount (now book) ≤ length (now committed) ⌝ }
+    ensures { λ r. ⌜ ClearedInto (now (book .entry)) (now (cleared .entry)) (now (committed .entry)) r (now (cleared .exit)) (now (committed .exit)) ⌝ }
+{
+    let n = offer_count(book) as usize;
+    let p = parameters_in(&book[0..SIZE]);
+    let mut amounts = [0u32; 600];
+    let c = clearing(book, p, n, &mut amounts);
+    fill(&amounts, n, cleared);
+    commit(book, n, &amounts, committed);
+    c
+}
+
 // Clears a book. On a clearing the two buffers receive each row's cleared and committed tenths, and entries past the last
 // row are not touched; on a refusal both hold what they held.
 pub fn clear(book: &[u8], cleared: &mut [u32], committed: &mut [u32]) -> Answer
@@ -35,11 +56,5 @@ pub fn clear(book: &[u8], cleared: &mut [u32], committed: &mut [u32]) -> Answer
     if let Verdict::Refused(number, place) = call_fault(book, cleared.len(), committed.len()) {
         return Answer::Refused(number, place);
     }
-    let n = offer_count(book) as usize;
-    let p = parameters_in(&book[0..512]);
-    let mut amounts = [0u32; 600];
-    let c = clearing(book, p, n, &mut amounts);
-    fill(&amounts, n, cleared);
-    commit(book, n, &amounts, committed);
-    Answer::Cleared(c)
+    Answer::Cleared(clear_accepted(book, cleared, committed))
 }

@@ -1,6 +1,6 @@
 // What the rows of a book sell under parameters: the total, the price, and each row's amount.
 use columns::read_columns;
-use curve::{Terms, points_2026};
+use curve::{Curve, Terms, points_2026};
 use market::margin::level_of;
 use market::price::{ClearingPrice, clearing_price};
 use market::total::cleared_total;
@@ -11,8 +11,11 @@ use values::number_held;
 ghost use mathlib.Core.Path.{_≡_};
 ghost use Prim.Native.Nat.{_≤_};
 ghost use lib.ListN.{length};
+ghost use Rattle.curve.specs.Shape.{Shaped};
+ghost use Rattle.market.specs.Rows.{Rows, rowsOf};
+ghost use Rattle.shares.specs.Out.{Ordered};
 ghost use Rattle.ozpinduru.specs.Auction.{termsOf};
-ghost use Rattle.ozpinduru.specs.Sale.{Clearable, SoldAs};
+ghost use Rattle.ozpinduru.specs.Sale.{Clearable, SoldAs, SoldColumns};
 
 // The total and the price of a sale.
 pub struct Sale {
@@ -36,7 +39,33 @@ fn terms_of(p: Parameters) -> Terms
     }
 }
 
-// The sale of n rows, with what each clears.
+// The sale of the rows of five columns on a curve, with what each row clears.
+pub fn sell_columns(
+    c: Curve,
+    prices: &[u32],
+    quantities: &[u32],
+    highs: &[u32],
+    lows: &[u32],
+    resources: &[u32],
+    n: usize,
+    amounts: &mut [u32],
+) -> Sale
+    requires { ⌜ Shaped c ⌝ }
+    requires { ⌜ Rows (now prices) (now quantities) n ⌝ }
+    requires { ⌜ Ordered (now quantities) (now highs) (now lows) (now resources) n ⌝ }
+    requires { ⌜ n ≤ length (now amounts) ⌝ }
+    ensures { λ r. ⌜ SoldColumns c (rowsOf (now (prices .entry)) (now (quantities .entry)) (now (highs .entry)) (now (lows .entry)) (now (resources .entry)) n) (now (amounts .entry)) r (now (amounts .exit)) ⌝ }
+{
+    let total = cleared_total(c, prices, quantities, n);
+    let level = level_of(prices, quantities, n, total);
+    share_out(prices, quantities, highs, lows, resources, n, level, amounts);
+    Sale {
+        total,
+        price: clearing_price(c, level),
+    }
+}
+
+// The sale of n rows of a book under parameters, with what each row clears.
 pub fn sell(book: &[u8], p: Parameters, n: usize, amounts: &mut [u32]) -> Sale
     requires { ⌜ Clearable (now book) p n × (n ≤ length (now amounts)) ⌝ }
     ensures { λ r. ⌜ SoldAs (now (book .entry)) p n (now (amounts .entry)) r (now (amounts .exit)) ⌝ }
@@ -48,8 +77,5 @@ pub fn sell(book: &[u8], p: Parameters, n: usize, amounts: &mut [u32]) -> Sale
     let mut resources = [0u32; 600];
     read_columns(book, n, &mut prices, &mut quantities, &mut highs, &mut lows, &mut resources);
     let c = points_2026(terms_of(p));
-    let total = cleared_total(c, &prices, &quantities, n);
-    let level = level_of(&prices, &quantities, n, total);
-    share_out(&prices, &quantities, &highs, &lows, &resources, n, level, amounts);
-    Sale { total, price: clearing_price(c, level) }
+    sell_columns(c, &prices, &quantities, &highs, &lows, &resources, n, amounts)
 }

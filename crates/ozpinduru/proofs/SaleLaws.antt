@@ -1,0 +1,75 @@
+-- What a sale over columns says: the total and the price by offers of price and quantity alone, and the sale of a book.
+--
+-- In order: the level at which a total stops, by its own total; the total and the price look at no stamp and no resource
+-- number; a sale over the columns of a book is the book's sale.
+-- Assumes nothing.
+use mathlib.Core.Path.{_≡_, refl, ap, sym, subst, _∙_}
+use mathlib.Core.List.{List}
+use Prim.Native.Nat.{ℕ, _≤_}
+use lib.ListN.{length}
+use Rattle.auction.specs.Offers.{Offers, supply, supplyBelow, levelSum}
+use Rattle.auction.specs.Clearing.{clearedTotal, nextPrice, clearingPrice}
+use Rattle.auction.specs.Shares.{levelAmount}
+use Rattle.values.specs.declared.head.Parameters.{Parameters}
+use Rattle.curve.specs.Shape.{curve2026}
+use Rattle.curve.specs.Price.{demandOf}
+use Rattle.curve.specs.declared.Curve.{Curve}
+use Rattle.curve.specs.declared.Terms.{Terms}
+use Rattle.market.specs.Rows.{Rows, listed, rowsOf}
+use Rattle.market.specs.Stop.{StopsAt}
+use Rattle.market.specs.Price.{asPrice, priceAt}
+use Rattle.market.specs.declared.margin.Level.{Level}
+use Rattle.market.specs.declared.price.ClearingPrice.{ClearingPrice}
+use Rattle.market.proofs.Agree.{price-agrees}
+use Rattle.shares.specs.Out.{SharedOut}
+use Rattle.columns.specs.Columns.{Columns, ColumnsRead}
+use Rattle.ozpinduru.specs.Auction.{termsOf, offersOf, total, price}
+use Rattle.ozpinduru.specs.Sale.{Clearable, SoldAs, SoldColumns}
+use Rattle.ozpinduru.specs.declared.sale.Sale.{Sale}
+use Rattle.ozpinduru.proofs.Sales.{empty, columns-offers, shared-cleared}
+
+pub stops-own : (o : Offers) (x : ℕ) (l : Level) → StopsAt o x l → StopsAt o (l .total) l
+stops-own o x l s = subst (λ (y : ℕ). StopsAt o y l) (sym (s .total)) s
+
+module _ (prices quantities highs lows resources : List ℕ) (n : ℕ) where
+  abbrev few : Offers
+  few = listed prices quantities n
+
+  abbrev all : Offers
+  all = rowsOf prices quantities highs lows resources n
+
+  total-listed : (c : Curve) → clearedTotal (demandOf c) few ≡ clearedTotal (demandOf c) all
+  unfolding clearedTotal supply
+  total-listed c = refl
+
+  price-listed : (c : Curve) → clearingPrice (demandOf c) few ≡ clearingPrice (demandOf c) all
+  unfolding clearingPrice clearedTotal nextPrice supply
+  price-listed c = refl
+
+  -- the total, the price by the level and the amounts shared out are a sale of the columns
+  pub sold-columns : (c : Curve) (x : ℕ) (l : Level) (q : ClearingPrice) (before after : List ℕ)
+      → Rows prices quantities n → x ≡ clearedTotal (demandOf c) few → StopsAt few x l → q ≡ priceAt c l
+      → SharedOut all (l .total) before after
+      → SoldColumns c all before (record { total = x; price = q }) after
+  sold-columns c x l q before after rows e s f shared =
+      record {
+        quantity = e ∙ total-listed c;
+        quote = f ∙ price-agrees c few l (rows .cheap) (subst (λ (y : ℕ). StopsAt few y l) e s) ∙ ap asPrice (price-listed c);
+        amounts = subst (λ (y : ℕ). SharedOut all y before after) (s .total) shared
+      }
+
+-- a sale over the columns of a book is the book's sale
+pub sold-book : (b : List ℕ) (p : Parameters) (n : ℕ) (v : Columns) → Clearable b p n → ColumnsRead b n empty v
+    → (t : Terms) (c : Curve) → t ≡ termsOf p → c ≡ curve2026 t
+    → (before after : List ℕ) (s : Sale) → n ≤ length before
+    → SoldColumns c (rowsOf (v .prices) (v .quantities) (v .highs) (v .lows) (v .resources) n) before s after
+    → SoldAs b p n before s after
+unfolding total price
+sold-book b p n v ok read t c e f before after s long sold =
+    let same : c ≡ curve2026 (termsOf p) = f ∙ ap curve2026 e in
+    let x : s .total ≡ total b p = sold .quantity ∙ rw (same, columns-offers b p n v ok read) in
+    record {
+      quantity = x;
+      quote = sold .quote ∙ rw (same, columns-offers b p n v ok read);
+      amounts = shared-cleared b p n v ok read (s .total) before after long x (sold .amounts)
+    }
