@@ -26,7 +26,7 @@ pub record Divided (o : Offers) (x : ℕ) (a : ℕ → ℕ) : Type 0 where
   pub first : (i : ℕ) → i < o .count → (a i ≡ suc (shareDown o x i)) ↔ (rank o x i < spareTenths o x (o .price i))
   -- so of two offers of a level the one that is ahead gets a spare tenth if the other does
   pub ordered : (i j : ℕ) → i < o .count → j < o .count → o .price j ≡ o .price i → ahead o x j i ≡ true
-    → a i ≡ suc (shareDown o x i) → a j ≡ suc (shareDown o x j)
+      → a i ≡ suc (shareDown o x i) → a j ≡ suc (shareDown o x j)
 
 pub cleared-divided : (o : Offers) (x : ℕ) → Proper o → Divided o x (cleared o x)
 cleared-divided o x proper =
@@ -35,7 +35,7 @@ cleared-divided o x proper =
       within = λ i l. share-within o x proper i l;
       exact = λ p. shares-add-up o x proper p;
       first = λ i l. spare-tenth o x i;
-      ordered = λ i j l m e b h. spares-in-order o x i j m e b h
+      ordered = λ i j l m e b h. spares-in-order o x i j m e b h;
     }
 
 pub divided-agree : (o : Offers) (x : ℕ) (a b : ℕ → ℕ) → ((i : ℕ) → i < o .count → b i ≡ a i) → Divided o x a → Divided o x b
@@ -45,5 +45,5 @@ divided-agree o x a b e d =
       within = λ i l. rw (e i l) (d .within i l);
       exact = λ p. sumWhere-ext (λ i. eqb (o .price i) p) b a (o .count) (λ i l t. e i l) ∙ d .exact p;
       first = λ i l. rw (e i l) (d .first i l);
-      ordered = λ i j l m f h g. e j m ∙ d .ordered i j l m f h (sym (e i l) ∙ g)
+      ordered = λ i j l m f h g. e j m ∙ d .ordered i j l m f h (sym (e i l) ∙ g);
     }

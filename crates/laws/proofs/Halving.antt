@@ -37,7 +37,7 @@ halving-failed test top low high middle h l m e =
       ordered = omega arith;
       within = omega (arith, h .within);
       passes = h .passes;
-      fails = λ p. ap test s ∙ e
+      fails = λ p. ap test s ∙ e;
     }
 
 -- where the ends meet, they meet at the largest number that passes

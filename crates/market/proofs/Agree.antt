@@ -42,8 +42,10 @@ unfolding stopLevel
 past-stop o x m e l =
     by-order (supply o m) x
     (λ h. absurd
-    (omega (arith,
-    largest-is (stops o x) 1000000 .past (suc m) l (le-leb (supplyBelow o (suc m)) x (omega (arith, supplyBelow-suc o m))))))
+    (omega (
+      arith,
+      largest-is (stops o x) 1000000 .past (suc m) l (le-leb (supplyBelow o (suc m)) x (omega (arith, supplyBelow-suc o m))),
+    )))
     (λ h. h)
 
 -- the level's price is the lowest price at or below which more than x is offered, if there is one
@@ -55,8 +57,10 @@ next-level o x l cheap s =
   where
     below : supplyBelow o (l .price) ≤ x
     below = subst (λ (p : ℕ). supplyBelow o p ≤ x) (sym (s .price)) (stop-below o x)
+
     over : l .total < l .reach → x < supply o (l .price)
     over h = omega (arith, s .total, s .reach)
+
     all-taken : l .reach ≤ l .total → sumTo (o .quantity) (o .count) ≤ x
     all-taken h =
         by-order 1000000 (l .price)

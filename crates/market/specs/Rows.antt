@@ -23,7 +23,7 @@ listed prices quantities n =
       price = λ i. getD prices i 0;
       quantity = λ i. getD quantities i 0;
       stamp = λ i. 0;
-      resource = λ i. 0
+      resource = λ i. 0;
     }
 
 -- the offers of five lists; a time stamp is its high half times 2 ^ 32 and its low half
@@ -34,5 +34,5 @@ rowsOf prices quantities highs lows resources n =
       price = λ i. getD prices i 0;
       quantity = λ i. getD quantities i 0;
       stamp = λ i. getD highs i 0 * 4294967296 + getD lows i 0;
-      resource = λ i. getD resources i 0
+      resource = λ i. getD resources i 0;
     }

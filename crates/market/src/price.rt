@@ -1,6 +1,7 @@
 // The clearing price, or that there is none.
 use crate::margin::Level;
-use curve::{Curve, tenth_price};
+use curve::Curve;
+use curve::tenth_price;
 use units::CentsPerMwDay;
 ghost use mathlib.Core.Path.{_≡_};
 ghost use Prim.Native.Nat.{_≤_};

@@ -1,6 +1,7 @@
 // The cleared total.
 use crate::supply::supply_at;
-use curve::{Curve, tenth_price};
+use curve::Curve;
+use curve::tenth_price;
 ghost use mathlib.Core.Path.{_≡_};
 ghost use Prim.Native.Nat.{_≤_};
 ghost use Rattle.auction.specs.Clearing.{clearedTotal};

@@ -55,7 +55,7 @@ module _ (b b′ : List ℕ) (s : SameButBlocks b b′) where
         price = ofRow-same (λ row. held (bookOffer b row .price)) (λ row. held (bookOffer b′ row .price)) (λ row l. ap held (s .offers row l .price)) i;
         quantity = ofRow-same (λ row. bookOffer b row .quantity) (λ row. bookOffer b′ row .quantity) (λ row l. s .offers row l .quantity) i;
         stamp = ofRow-same (λ row. bookOffer b row .stamp) (λ row. bookOffer b′ row .stamp) (λ row l. s .offers row l .stamp) i;
-        resource = ofRow-same (λ row. bookOffer b row .resource) (λ row. bookOffer b′ row .resource) (λ row l. s .offers row l .resource) i
+        resource = ofRow-same (λ row. bookOffer b row .resource) (λ row. bookOffer b′ row .resource) (λ row l. s .offers row l .resource) i;
       }
 
   total-same : total b (bookParameters b) ≡ total b′ (bookParameters b′)
@@ -81,7 +81,6 @@ module _ (b cleared₀ committed₀ : List ℕ) (k : Clearing) (cleared₁ commi
     (out : Outcome b cleared₀ committed₀ (Answer·Cleared k) cleared₁ committed₁)
     (b′ cleared₀′ committed₀′ : List ℕ) (k′ : Clearing) (cleared₁′ committed₁′ : List ℕ)
     (out′ : Outcome b′ cleared₀′ committed₀′ (Answer·Cleared k′) cleared₁′ committed₁′) where
-
   pub call-blocks : SameButBlocks b b′ → ClearAlike k k′ cleared₁ cleared₁′ (offerCount b)
   unfolding clearingOf
   call-blocks s =
@@ -93,5 +92,5 @@ module _ (b cleared₀ committed₀ : List ℕ) (k : Clearing) (cleared₁ commi
         rows = λ row l.
             cleared-row b cleared₀ committed₀ k cleared₁ committed₁ out row l
             ∙ row-same b b′ s row
-            ∙ sym (cleared-row b′ cleared₀′ committed₀′ k′ cleared₁′ committed₁′ out′ row (rw (s .count) at l))
+            ∙ sym (cleared-row b′ cleared₀′ committed₀′ k′ cleared₁′ committed₁′ out′ row (rw (s .count) at l));
       }

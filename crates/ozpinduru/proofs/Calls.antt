@@ -78,7 +78,7 @@ passed-callable b cleared committed e =
           (unless-passed (leb (offerCount b) cleared) 9 1 (andThen-left (unless (leb (offerCount b) cleared) (shortBuffer 1)) _ buffers));
       committed-long =
           leb-true (offerCount b) committed
-          (unless-passed (leb (offerCount b) committed) 9 2 (andThen-right (unless (leb (offerCount b) cleared) (shortBuffer 1)) _ buffers))
+          (unless-passed (leb (offerCount b) committed) 9 2 (andThen-right (unless (leb (offerCount b) cleared) (shortBuffer 1)) _ buffers));
     }
 
 -- ---- an accepted book cleared into its buffers
@@ -101,11 +101,12 @@ cleared-into b p n c amounts cleared cleared′ committed committed′ e f few s
       cleared-holds = g ∙ filled-ext _ (rowCleared b p) n cleared row ∙ ap₂ (λ q m. filled (rowCleared b q) m cleared) e f;
       committed-holds =
           h ∙ filled-ext _ (rowCommitted b p) n committed (λ i l. ap (λ (x : ℕ). committed-of i x) (row i l))
-          ∙ ap₂ (λ q m. filled (rowCommitted b q) m committed) e f
+          ∙ ap₂ (λ q m. filled (rowCommitted b q) m committed) e f;
     }
   where
     row : (i : ℕ) → i < n → getD amounts i 0 ≡ rowCleared b p i
     row i l = ap (λ (xs : List ℕ). getD xs i 0) (s .amounts) ∙ getD-filled (rowCleared b p) n (zeros 600) i 0 (rw (length-zeros 600) few) l
+
     committed-of : ℕ → ℕ → ℕ
     committed-of i x = Rattle.auction.specs.Settlement.committed (optional (bookOffer b i .block)) x
 
@@ -119,7 +120,7 @@ outcome-refused b cleared committed v number place e f =
     record {
       answered = sym (ap (λ w. answerBy w (clearingOf b (bookParameters b))) g);
       cleared-holds = sym (ap (λ w. bufferBy w cleared (filled (rowCleared b (bookParameters b)) (offerCount b) cleared)) g);
-      committed-holds = sym (ap (λ w. bufferBy w committed (filled (rowCommitted b (bookParameters b)) (offerCount b) committed)) g)
+      committed-holds = sym (ap (λ w. bufferBy w committed (filled (rowCommitted b (bookParameters b)) (offerCount b) committed)) g);
     }
 
 pub outcome-cleared : (b cleared committed : List ℕ) (v : Verdict) (c : Clearing) (cleared′ committed′ : List ℕ)
@@ -133,5 +134,5 @@ outcome-cleared b cleared committed v c cleared′ committed′ e f s =
       cleared-holds =
           s .cleared-holds ∙ sym (ap (λ w. bufferBy w cleared (filled (rowCleared b (bookParameters b)) (offerCount b) cleared)) g);
       committed-holds =
-          s .committed-holds ∙ sym (ap (λ w. bufferBy w committed (filled (rowCommitted b (bookParameters b)) (offerCount b) committed)) g)
+          s .committed-holds ∙ sym (ap (λ w. bufferBy w committed (filled (rowCommitted b (bookParameters b)) (offerCount b) committed)) g);
     }

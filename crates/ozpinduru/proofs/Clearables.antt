@@ -28,7 +28,7 @@ terms-in-range p r =
       offset-most = r .offset-to;
       outage-most = r .outage-to;
       requirement-least = r .requirement-from;
-      requirement-most = r .requirement-to
+      requirement-most = r .requirement-to;
     }
 
 -- an optional value that is there was given
@@ -46,5 +46,5 @@ accepted-clearable b a =
       offered = λ row l. accepted-priced b a row l .sound .quantity-from;
       small = λ row l. accepted-priced b a row l .sound .quantity-to;
       distinct = accepted-distinct b a;
-      blocks = λ row l block e. accepted-priced b a row l .sound .block-to block (optional-given _ block e)
+      blocks = λ row l block e. accepted-priced b a row l .sound .block-to block (optional-given _ block e);
     }

@@ -39,12 +39,11 @@ byPrice-agree d o x y e h =
       within = λ i l. rw (e i l) (h .within i l);
       sum = sumTo-ext y x (o .count) e ∙ h .sum;
       whole = λ p f i l g. e i l ∙ h .whole p f i l g;
-      nothing = λ p f i l g. e i l ∙ h .nothing p f i l g
+      nothing = λ p f i l g. e i l ∙ h .nothing p f i l g;
     }
 
 module _ (b cleared₀ committed₀ : List ℕ) (k : Clearing) (cleared₁ committed₁ : List ℕ)
     (out : Outcome b cleared₀ committed₀ (Answer·Cleared k) cleared₁ committed₁) where
-
   -- the curve that the book's parameters make
   abbrev asked : Demand
   asked = demand b (bookParameters b)

@@ -43,7 +43,7 @@ module _ (b : List ℕ) (p : Parameters) (n : ℕ) (ok : Clearable b p n) where
         positive = λ i l. omega (arith, ofRow-there b (λ row. bookOffer b row .quantity) i l, ok .offered i (there i l));
         distinct = λ i j l m e.
             ok .distinct i j (there i l) (there j m)
-            (sym (ofRow-there b (λ row. bookOffer b row .resource) i l) ∙ e ∙ ofRow-there b (λ row. bookOffer b row .resource) j m)
+            (sym (ofRow-there b (λ row. bookOffer b row .resource) i l) ∙ e ∙ ofRow-there b (λ row. bookOffer b row .resource) j m);
       }
 
 module _ (b : List ℕ) (a : firstFault b ≡ Passed) where

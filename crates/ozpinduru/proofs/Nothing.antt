@@ -42,7 +42,6 @@ module _ (b : List ℕ) (p : Parameters) (e : price b p ≡ none) where
 
 module _ (b cleared₀ committed₀ : List ℕ) (k : Clearing) (cleared₁ committed₁ : List ℕ)
     (out : Outcome b cleared₀ committed₀ (Answer·Cleared k) cleared₁ committed₁) where
-
   same : k ≡ clearingOf b (bookParameters b)
   same = cleared-clearing b cleared₀ committed₀ k cleared₁ committed₁ out
 
@@ -60,5 +59,5 @@ module _ (b cleared₀ committed₀ : List ℕ) (k : Clearing) (cleared₁ commi
         no-price = ap (λ (c : Clearing). c .price) same ∙ ap asPrice e;
         no-make-whole = ap (λ (c : Clearing). c .«make_whole») same ∙ make-whole-none b (bookParameters b) e;
         no-daily = ap (λ (c : Clearing). c .daily) same ∙ daily-none b (bookParameters b) e;
-        no-year = ap (λ (c : Clearing). c .year) same ∙ year-none b (bookParameters b) e
+        no-year = ap (λ (c : Clearing). c .year) same ∙ year-none b (bookParameters b) e;
       }

@@ -52,7 +52,6 @@ buffer-refused (Refused m p) before after number place e = refl
 
 module _ (b cleared committed : List ℕ) (k : Clearing) (cleared′ committed′ : List ℕ)
     (out : Outcome b cleared committed (Answer·Cleared k) cleared′ committed′) where
-
   no-fault : callFault b (length cleared) (length committed) ≡ Passed
   no-fault = answer-passed (callFault b (length cleared) (length committed)) (clearingOf b (bookParameters b)) k (out .answered)
 
@@ -78,7 +77,7 @@ module _ (b cleared committed : List ℕ) (k : Clearing) (cleared′ committed�
   committed-long : offerCount b ≤ length committed
   unfolding bufferFault
   committed-long =
-      leb-true (offerCount b) (length committed) (unless-passed (leb (offerCount b) (length committed)) 9 2 
+      leb-true (offerCount b) (length committed) (unless-passed (leb (offerCount b) (length committed)) 9 2
       (andThen-right (unless (leb (offerCount b) (length cleared)) (shortBuffer 1)) _ buffers-long))
 
   -- each row's cleared tenths stand in the first buffer
@@ -97,7 +96,6 @@ module _ (b cleared committed : List ℕ) (k : Clearing) (cleared′ committed�
 
 module _ (b cleared committed : List ℕ) (number place : ℕ) (cleared′ committed′ : List ℕ)
     (out : Outcome b cleared committed (Answer·Refused number place) cleared′ committed′) where
-
   -- the number and the place are those of the first fault of the call
   pub refused-first : callFault b (length cleared) (length committed) ≡ Refused number place
   refused-first =
@@ -105,6 +103,7 @@ module _ (b cleared committed : List ℕ) (number place : ℕ) (cleared′ commi
 
   -- both buffers hold what they held before
   pub refused-kept : (cleared′ ≡ cleared) × (committed′ ≡ committed)
-  refused-kept =
-      (out .cleared-holds ∙ buffer-refused _ _ _ number place refused-first,
-      out .committed-holds ∙ buffer-refused _ _ _ number place refused-first)
+  refused-kept = (
+    out .cleared-holds ∙ buffer-refused _ _ _ number place refused-first,
+    out .committed-holds ∙ buffer-refused _ _ _ number place refused-first,
+  )

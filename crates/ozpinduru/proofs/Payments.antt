@@ -67,7 +67,7 @@ module _ (b : List ℕ) (p : Parameters) (n : ℕ) (ok : Clearable b p n) where
       record {
         inside = ok .inside;
         long = omega (arith, ap length e, length-filled (rowCleared b p) n before);
-        modest = λ row l. rw (cleared-row row l) (omega (arith, committed-most (optional (bookOffer b row .block)) (rowCleared b p row) (bookOffer b row .quantity) (ok .blocks row l) (row-within row l), ok .small row l))
+        modest = λ row l. rw (cleared-row row l) (omega (arith, committed-most (optional (bookOffer b row .block)) (rowCleared b p row) (bookOffer b row .quantity) (ok .blocks row l) (row-within row l), ok .small row l));
       }
     where
       cleared-row : (row : ℕ) → row < n → getD after row 0 ≡ rowCleared b p row
@@ -98,5 +98,5 @@ module _ (b : List ℕ) (p : Parameters) (n : ℕ) (ok : Clearable b p n) where
   unfolding clearingOf dailyTotal yearTotal
   clearing-is x q whole daily year days e f g h d y =
       let m : daily ≡ mills (price b p) (total b p) + allMakeWhole b p =
-        h ∙ ap₂ (λ (z : Option ℕ) (t : ℕ). mills z t + whole) (ap quoted f ∙ quoted-asPrice (price b p)) e ∙ ap (λ (w : ℕ). mills (price b p) (total b p) + w) g in
+      h ∙ ap₂ (λ (z : Option ℕ) (t : ℕ). mills z t + whole) (ap quoted f ∙ quoted-asPrice (price b p)) e ∙ ap (λ (w : ℕ). mills (price b p) (total b p) + w) g in
       λ i. record { total = e i; price = f i; «make_whole» = g i; daily = m i; year = (y ∙ ap₂ _*_ d m) i }

@@ -55,7 +55,7 @@ module _ (prices quantities highs lows resources : List ℕ) (n : ℕ) where
       record {
         quantity = e ∙ total-listed c;
         quote = f ∙ price-agrees c few l (rows .cheap) (subst (λ (y : ℕ). StopsAt few y l) e s) ∙ ap asPrice (price-listed c);
-        amounts = subst (λ (y : ℕ). SharedOut all y before after) (s .total) shared
+        amounts = subst (λ (y : ℕ). SharedOut all y before after) (s .total) shared;
       }
 
 -- a sale over the columns of a book is the book's sale
@@ -71,5 +71,5 @@ sold-book b p n v ok read t c e f before after s long sold =
     record {
       quantity = x;
       quote = sold .quote ∙ rw (same, columns-offers b p n v ok read);
-      amounts = shared-cleared b p n v ok read (s .total) before after long x (sold .amounts)
+      amounts = shared-cleared b p n v ok read (s .total) before after long x (sold .amounts);
     }

@@ -39,7 +39,7 @@ ofCount b m =
       price = λ row. cond (ltb row m) (priceOf b row) 0;
       quantity = λ row. cond (ltb row m) (quantityOf b row) 0;
       stamp = λ row. cond (ltb row m) (bookOffer b row .stamp) 0;
-      resource = λ row. cond (ltb row m) (resourceOf b row) 0
+      resource = λ row. cond (ltb row m) (resourceOf b row) 0;
     }
 
 module _ (b : List ℕ) (p : Parameters) (n : ℕ) (v : Columns) (ok : Clearable b p n) (read : ColumnsRead b n empty v) where
@@ -52,7 +52,7 @@ module _ (b : List ℕ) (p : Parameters) (n : ℕ) (v : Columns) (ok : Clearable
         price = getD-column (priceOf b) n few (read .price) i;
         quantity = getD-column (quantityOf b) n few (read .quantity) i;
         stamp = getD-stamps b n few (read .high) (read .low) i;
-        resource = getD-column (resourceOf b) n few (read .resource) i
+        resource = getD-column (resourceOf b) n few (read .resource) i;
       })
       ∙ ap (ofCount b) (ok .rows)
     where
@@ -75,7 +75,7 @@ module _ (b : List ℕ) (p : Parameters) (n : ℕ) (v : Columns) (ok : Clearable
         sized = column-long (quantityOf b) (read .quantity);
         few = ok .inside .few;
         small = λ i l. omega (arith, column-row (quantityOf b) (read .quantity) i l, ok .small i l);
-        cheap = λ i l. omega (arith, column-row (priceOf b) (read .price) i l, ok .priced i l)
+        cheap = λ i l. omega (arith, column-row (priceOf b) (read .price) i l, ok .priced i l);
       }
 
   pub columns-ordered : Ordered (v .quantities) (v .highs) (v .lows) (v .resources) n
@@ -84,7 +84,7 @@ module _ (b : List ℕ) (p : Parameters) (n : ℕ) (v : Columns) (ok : Clearable
         highs-long = column-long (highOf b) (read .high);
         lows-long = column-long (lowOf b) (read .low);
         resources-long = column-long (resourceOf b) (read .resource);
-        positive = λ i l. omega (arith, column-row (quantityOf b) (read .quantity) i l, ok .offered i l)
+        positive = λ i l. omega (arith, column-row (quantityOf b) (read .quantity) i l, ok .offered i l);
       }
 
   -- the amounts shared out over the columns are what the book's rows clear

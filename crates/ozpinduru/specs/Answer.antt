@@ -36,7 +36,7 @@ clearingOf b p =
       price = asPrice (price b p);
       «make_whole» = allMakeWhole b p;
       daily = dailyTotal b p;
-      year = yearTotal b p
+      year = yearTotal b p;
     }
 
 -- a refusal's number and place, or the clearing
@@ -61,10 +61,10 @@ pub record ClearedInto (b cleared committed : List ℕ) (c : Clearing) (cleared�
 pub record Outcome (b cleared committed : List ℕ) (answer : Answer) (cleared′ committed′ : List ℕ) : Type 0 where
   pub answered : answer ≡ answerBy (callFault b (length cleared) (length committed)) (clearingOf b (bookParameters b))
   pub cleared-holds :
-    cleared′
-    ≡ bufferBy (callFault b (length cleared) (length committed)) cleared
-    (filled (rowCleared b (bookParameters b)) (offerCount b) cleared)
+      cleared′
+      ≡ bufferBy (callFault b (length cleared) (length committed)) cleared
+      (filled (rowCleared b (bookParameters b)) (offerCount b) cleared)
   pub committed-holds :
-    committed′
-    ≡ bufferBy (callFault b (length cleared) (length committed)) committed
-    (filled (rowCommitted b (bookParameters b)) (offerCount b) committed)
+      committed′
+      ≡ bufferBy (callFault b (length cleared) (length committed)) committed
+      (filled (rowCommitted b (bookParameters b)) (offerCount b) committed)

@@ -28,7 +28,7 @@ termsOf p =
       cost = record { 0 = held (p .cost) };
       offset = record { 0 = held (p .offset) };
       outage = held (p .outage);
-      requirement = held (p .requirement)
+      requirement = held (p .requirement);
     }
 
 -- a value of a row, and nothing past the last row
@@ -43,7 +43,7 @@ offersOf b =
       price = ofRow b (λ row. held (bookOffer b row .price));
       quantity = ofRow b (λ row. bookOffer b row .quantity);
       stamp = ofRow b (λ row. bookOffer b row .stamp);
-      resource = ofRow b (λ row. bookOffer b row .resource)
+      resource = ofRow b (λ row. bookOffer b row .resource);
     }
 
 module _ (b : List ℕ) (p : Parameters) where

@@ -31,7 +31,7 @@ pub record Clearable (b : List ℕ) (p : Parameters) (n : ℕ) : Type 0 where
   pub distinct : (row other : ℕ) → row < n → other < n → bookOffer b row .resource ≡ bookOffer b other .resource → row ≡ other
   -- a minimum block is no larger than the offer
   pub blocks : (row : ℕ) → row < n → (block : ℕ) → optional (bookOffer b row .block) ≡ some block
-    → block ≤ bookOffer b row .quantity
+      → block ≤ bookOffer b row .quantity
 
 -- the sale is X at the clearing price, and the amounts are what each row clears; entries past the last row stay
 pub record SoldAs (b : List ℕ) (p : Parameters) (n : ℕ) (before : List ℕ) (s : Sale) (after : List ℕ) : Type 0 where

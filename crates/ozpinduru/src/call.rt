@@ -1,6 +1,8 @@
 // The call: a book of bytes and two result buffers.
-use crate::{Answer, Clearing};
-use crate::payment::{clearing, commit};
+use crate::Answer;
+use crate::Clearing;
+use crate::payment::clearing;
+use crate::payment::commit;
 use block::SIZE;
 use book::verdict;
 use columns::fill::fill;

@@ -1,8 +1,11 @@
 // What the rows of a book sell under parameters: the total, the price, and each row's amount.
 use columns::read_columns;
-use curve::{Curve, Terms, points_2026};
+use curve::Curve;
+use curve::Terms;
+use curve::points_2026;
 use market::margin::level_of;
-use market::price::{ClearingPrice, clearing_price};
+use market::price::ClearingPrice;
+use market::price::clearing_price;
 use market::total::cleared_total;
 use shares::share_out;
 use units::DollarsPerMwYear;
@@ -58,7 +61,16 @@ pub fn sell_columns(
 {
     let total = cleared_total(c, prices, quantities, n);
     let level = level_of(prices, quantities, n, total);
-    share_out(prices, quantities, highs, lows, resources, n, level, amounts);
+    share_out(
+        prices,
+        quantities,
+        highs,
+        lows,
+        resources,
+        n,
+        level,
+        amounts,
+    );
     Sale {
         total,
         price: clearing_price(c, level),
@@ -75,7 +87,24 @@ pub fn sell(book: &[u8], p: Parameters, n: usize, amounts: &mut [u32]) -> Sale
     let mut highs = [0u32; 600];
     let mut lows = [0u32; 600];
     let mut resources = [0u32; 600];
-    read_columns(book, n, &mut prices, &mut quantities, &mut highs, &mut lows, &mut resources);
+    read_columns(
+        book,
+        n,
+        &mut prices,
+        &mut quantities,
+        &mut highs,
+        &mut lows,
+        &mut resources,
+    );
     let c = points_2026(terms_of(p));
-    sell_columns(c, &prices, &quantities, &highs, &lows, &resources, n, amounts)
+    sell_columns(
+        c,
+        &prices,
+        &quantities,
+        &highs,
+        &lows,
+        &resources,
+        n,
+        amounts,
+    )
 }

@@ -15,7 +15,7 @@ parametersOf s =
       cost = valueOf (marked (byte s 26) 0) (u32At s 8);
       offset = valueOf (marked (byte s 26) 1) (u32At s 12);
       outage = valueOf (marked (byte s 26) 2) (u32At s 16);
-      requirement = valueOf (marked (byte s 26) 3) (u32At s 20)
+      requirement = valueOf (marked (byte s 26) 3) (u32At s 20);
     }
 
 -- the number of offers that a block 0 states

@@ -16,5 +16,5 @@ offerOf s =
       price = valueOf (marked (byte s 28) 0) (u32At s 8);
       quantity = u32At s 12;
       block = valueOf (marked (byte s 28) 1) (u32At s 16);
-      stamp = u64At s 20
+      stamp = u64At s 20;
     }

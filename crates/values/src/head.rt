@@ -1,6 +1,7 @@
 // The region's parameters, as block 0 holds them.
+use crate::Value;
+use crate::value_at;
 use block::bytes::u16_at;
-use crate::{Value, value_at};
 ghost use mathlib.Core.Path.{_≡_};
 ghost use Prim.Native.Nat.{_≤_, _<_};
 ghost use lib.ListN.{length};

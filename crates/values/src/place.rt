@@ -1,6 +1,8 @@
 // An offer, as its own 32 bytes hold it.
-use block::bytes::{u32_at, u64_at};
-use crate::{Value, value_at};
+use crate::Value;
+use crate::value_at;
+use block::bytes::u32_at;
+use block::bytes::u64_at;
 ghost use mathlib.Core.Path.{_≡_};
 ghost use Prim.Native.Nat.{_≤_};
 ghost use lib.ListN.{length};

@@ -64,7 +64,7 @@ returns c =
       price = b .before .before .stop-level .ensures .0;
       amount = amount-is _ _ _ _ _ _ (b .before .supply-below .ensures .0) (facts b .2) (omega arith);
       sum = facts b .2;
-      reach = b .supply-at .ensures .0
+      reach = b .supply-at .ensures .0;
     }
 
 returns-2 : tie.Need-returns-2
@@ -75,7 +75,7 @@ returns-2 c =
       price = b .before .before .stop-level .ensures .0;
       amount = amount-is _ _ _ _ _ _ (b .before .supply-below .ensures .0) (facts b .2) (omega arith);
       sum = facts b .2;
-      reach = b .supply-at .ensures .0
+      reach = b .supply-at .ensures .0;
     }
 
 pub level-of-spec : {M : Type 1} → statement M

@@ -51,13 +51,16 @@ fill-requires : tie.Need-fill-requires
 fill-requires c κs =
     let sold = c .before .before .before in
     let count = sold .before .before .before .before .offer-count .ensures .0 in
-    let start = sold .before .before .before .before .before .before .before .before in
-    (omega (arith,
-    count,
-    accepted-inside _ (start .pre .0) .few,
-    length-filling _ _ _ (sold .clearing .ensures .amounts),
-    length-zeros 600),
-    omega (arith, count, start .pre .1 .0))
+    let start = sold .before .before .before .before .before .before .before .before in (
+      omega (
+        arith,
+        count,
+        accepted-inside _ (start .pre .0) .few,
+        length-filling _ _ _ (sold .clearing .ensures .amounts),
+        length-zeros 600,
+      ),
+      omega (arith, count, start .pre .1 .0),
+    )
 
 slice-aggregate-commit : tie.Need-slice-aggregate-commit
 slice-aggregate-commit c = search needs
@@ -67,10 +70,11 @@ commit-requires c κs =
     let sold = c .before .before .before .before .before .before .before .before in
     let count = sold .before .before .before .before .offer-count .ensures .0 in
     let start = sold .before .before .before .before .before .before .before .before in
-    let inside = accepted-inside _ (start .pre .0) in
-    (subst (Inside _) (sym count) inside,
-    omega (arith, count, inside .few, length-filling _ _ _ (sold .clearing .ensures .amounts), length-zeros 600),
-    omega (arith, count, start .pre .1 .1))
+    let inside = accepted-inside _ (start .pre .0) in (
+      subst (Inside _) (sym count) inside,
+      omega (arith, count, inside .few, length-filling _ _ _ (sold .clearing .ensures .amounts), length-zeros 600),
+      omega (arith, count, start .pre .1 .1),
+    )
 
 same-length : tie.Need-same-length
 same-length c = search needs

@@ -27,11 +27,13 @@ daily-most : (c : tie.After-mills-of) → c .mills-of .result + c .before .make-
 daily-most c =
     let sold = c .before .before .before .before .before .sell .ensures in
     let start = c .before .before .before .before .before .before .before .before .before in
-    omega (arith,
-    c .mills-of .ensures,
-    mills-most _ _ _ (start .pre .0) _ _ (sold .quote) (sold .quantity),
-    c .before .make-whole-all .ensures .1,
-    start .pre .0 .inside .few)
+    omega (
+      arith,
+      c .mills-of .ensures,
+      mills-most _ _ _ (start .pre .0) _ _ (sold .quote) (sold .quantity),
+      c .before .make-whole-all .ensures .1,
+      start .pre .0 .inside .few,
+    )
 
 add-daily : tie.Need-add-daily
 add-daily c = omega (arith, daily-most c)
@@ -56,7 +58,7 @@ returns c =
           (ap (λ (m : ℕ). m + c .before .before .make-whole-all .result) (c .before .mills-of .ensures))
           (c .days-of .ensures .0)
           refl;
-      amounts = sold .amounts
+      amounts = sold .amounts;
     }
 
 pub clearing-spec : {M : Type 1} → statement M

@@ -50,11 +50,13 @@ paid-most c =
     let b = c .before .before .before .before in
     let start = b .before .before .before in
     let most : c .before .commitment .result ≤ 200000 =
-      omega (arith, c .before .commitment .ensures, start .pre .0 .modest (b .loop .row) (omega arith)) in
+    omega (arith, c .before .commitment .ensures, start .pre .0 .modest (b .loop .row) (omega arith)) in
     let amount = getD (start .args .amounts .now) (b .loop .row) 0 in
-    omega (arith,
-    c .make-whole .ensures,
-    mills-most (quoted (start .args .price)) (c .before .commitment .result - amount) (start .pre .1) (omega arith))
+    omega (
+      arith,
+      c .make-whole .ensures,
+      mills-most (quoted (start .args .price)) (c .before .commitment .result - amount) (start .pre .1) (omega arith),
+    )
 
 add-sum : tie.Need-add-sum Inv-loop μ-loop
 add-sum c = omega (arith, paid-most c)
@@ -69,11 +71,12 @@ loop-again : tie.Need-loop-again Inv-loop μ-loop
 loop-again c =
     let b = c .before .before .before .before in
     let start = b .before .before .before in
-    let amount = getD (start .args .amounts .now) (b .loop .row) 0 in
-    (omega arith,
-    added-more _ _ (b .loop .inv .1)
-    (c .make-whole .ensures ∙ ap (λ (tenths : ℕ). mills (quoted (start .args .price)) (tenths - amount)) (c .before .commitment .ensures)),
-    omega (arith, paid-most c))
+    let amount = getD (start .args .amounts .now) (b .loop .row) 0 in (
+      omega arith,
+      added-more _ _ (b .loop .inv .1)
+          (c .make-whole .ensures ∙ ap (λ (tenths : ℕ). mills (quoted (start .args .price)) (tenths - amount)) (c .before .commitment .ensures)),
+      omega (arith, paid-most c),
+    )
 
 returns : tie.Need-returns Inv-loop μ-loop
 returns c = (c .before .loop .inv .1 ∙ ap (sumTo _) (omega arith), omega arith)

@@ -55,9 +55,10 @@ sell-columns-requires c κs =
     let after = c .before .before .before .before .before .before .before .before .before .before .before .before .before in
     let start = after .before .before .before .before .before .before .before .before in
     let ok = start .pre .0 in
-    let read = after .read-columns .ensures in
-    (c .before .before .before .before .before .before .points-2026 .ensures .1,
-    (columns-rows _ _ _ _ ok read, (columns-ordered _ _ _ _ ok read, start .pre .1)))
+    let read = after .read-columns .ensures in (
+      c .before .before .before .before .before .before .points-2026 .ensures .1,
+      (columns-rows _ _ _ _ ok read, (columns-ordered _ _ _ _ ok read, start .pre .1)),
+    )
 
 same-length : tie.Need-same-length
 same-length c = search needs
