@@ -8,3 +8,4 @@ pub mod Calls
 pub mod Demands
 pub mod Nothing
 pub mod Blocks
+pub mod Decided
