@@ -25,7 +25,7 @@ use Rattle.book.specs.Faults.{firstFault}
 use Rattle.ozpinduru.specs.Auction.{rowCleared, rowCommitted}
 use Rattle.ozpinduru.specs.Sale.{Clearable}
 use Rattle.ozpinduru.specs.Payment.{commitmentOf, ClearedAs}
-use Rattle.ozpinduru.specs.Answer.{Outcome, ClearedInto, answerBy, bufferBy, bufferFault, callFault, clearingOf}
+use Rattle.ozpinduru.specs.Answer.{Outcome, ClearedInto, answerOf, answerBy, bufferBy, bufferFault, callFault, clearingOf}
 use Rattle.ozpinduru.specs.declared.Clearing.{Clearing}
 use Rattle.ozpinduru.specs.declared.Answer.the-variants.{Cleared as Answer·Cleared, Refused as Answer·Refused}
 use Rattle.ozpinduru.proofs.Clearables.{accepted-clearable}
@@ -88,6 +88,12 @@ pub read-clearable : (b : List ℕ) (p : Parameters) (n : ℕ) → firstFault b 
     → Clearable b p n
 read-clearable b p n a e f = subst₂ (λ (q : Parameters) (m : ℕ). Clearable b q m) (sym e) (sym f) (accepted-clearable b a)
 
+-- the same clearing, by equal parameters and an equal count
+pub cleared-same : {b : List ℕ} {p p′ : Parameters} {n n′ : ℕ} {before after : List ℕ} {c : Clearing} → p ≡ p′ → n ≡ n′
+    → ClearedAs b p n before c after → ClearedAs b p′ n′ before c after
+cleared-same {b} {p} {p′} {n} {n′} {before} {after} {c} e f s =
+    subst₂ (λ (q : Parameters) (m : ℕ). ClearedAs b q m before c after) e f s
+
 pub cleared-into : (b : List ℕ) (p : Parameters) (n : ℕ) (c : Clearing) (amounts cleared cleared′ committed committed′ : List ℕ)
     → p ≡ bookParameters b → n ≡ offerCount b → n ≤ 600
     → ClearedAs b p n (zeros 600) c amounts
@@ -109,6 +115,16 @@ cleared-into b p n c amounts cleared cleared′ committed committed′ e f few s
 
     committed-of : ℕ → ℕ → ℕ
     committed-of i x = Rattle.auction.specs.Settlement.committed (optional (bookOffer b i .block)) x
+
+-- ---- the answer with no buffers
+
+pub answer-fault : (b : List ℕ) (v : Verdict) (number place : ℕ) → v ≡ firstFault b → v ≡ Refused number place
+    → Answer·Refused number place ≡ answerOf b
+answer-fault b v number place e f = sym (ap (λ w. answerBy w (clearingOf b (bookParameters b))) (sym e ∙ f))
+
+pub answer-cleared : (b : List ℕ) (c : Clearing) → firstFault b ≡ Passed → c ≡ clearingOf b (bookParameters b)
+    → Answer·Cleared c ≡ answerOf b
+answer-cleared b c a e = ap Answer·Cleared e ∙ sym (ap (λ w. answerBy w (clearingOf b (bookParameters b))) a)
 
 -- ---- outcomes
 

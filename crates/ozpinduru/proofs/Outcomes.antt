@@ -5,25 +5,21 @@
 -- Assumes nothing.
 use mathlib.Core.Path.{_≡_, refl, sym, ap, _∙_}
 use mathlib.Core.List.{List}
-use Prim.Native.Nat.{ℕ, _≤_, _<_}
-use native.Mathlib.Omega.{arith}
-use lib.Dec.{leb}
+use Prim.Native.Nat.{ℕ, _<_}
 use lib.ListN.{length, getD}
-use borrow.Author.Tests.{leb-true}
 use Rattle.laws.specs.Filled.{filled}
 use Rattle.laws.proofs.Fills.{getD-filled}
-use Rattle.values.specs.Refusals.{unless, shortBuffer}
 use Rattle.values.specs.declared.Verdict.{Verdict}
 use Rattle.values.specs.declared.Verdict.the-variants.{Passed, Refused}
-use Rattle.values.proofs.Firsts.{andThen-left, andThen-right, unless-passed}
 use Rattle.layout.specs.Form.{offerCount}
 use Rattle.layout.specs.Read.{bookParameters}
 use Rattle.book.specs.Faults.{firstFault}
 use Rattle.ozpinduru.specs.Auction.{rowCleared, rowCommitted}
-use Rattle.ozpinduru.specs.Answer.{Outcome, answerBy, bufferBy, bufferFault, callFault, clearingOf}
+use Rattle.ozpinduru.specs.Answer.{Outcome, answerBy, bufferBy, callFault, clearingOf}
 use Rattle.ozpinduru.specs.declared.Clearing.{Clearing}
 use Rattle.ozpinduru.specs.declared.Answer.{Answer}
 use Rattle.ozpinduru.specs.declared.Answer.the-variants.{Cleared as Answer·Cleared, Refused as Answer·Refused}
+use Rattle.ozpinduru.proofs.Calls.{Callable, passed-callable}
 
 -- an answer with a clearing comes of a call with no fault
 answer-passed : (v : Verdict) (c k : Clearing) → Answer·Cleared k ≡ answerBy v c → v ≡ Passed
@@ -55,42 +51,29 @@ module _ (b cleared committed : List ℕ) (k : Clearing) (cleared′ committed�
   no-fault : callFault b (length cleared) (length committed) ≡ Passed
   no-fault = answer-passed (callFault b (length cleared) (length committed)) (clearingOf b (bookParameters b)) k (out .answered)
 
+  callable : Callable b (length cleared) (length committed)
+  callable = passed-callable b (length cleared) (length committed) no-fault
+
   -- the book was accepted
   pub cleared-accepted : firstFault b ≡ Passed
-  unfolding callFault
-  cleared-accepted = andThen-left (firstFault b) _ no-fault
+  cleared-accepted = callable .accepted
 
   -- the clearing is the book's
   pub cleared-clearing : k ≡ clearingOf b (bookParameters b)
   cleared-clearing =
       answer-clearing (callFault b (length cleared) (length committed)) (clearingOf b (bookParameters b)) k (out .answered)
 
-  buffers-long : bufferFault (offerCount b) (length cleared) (length committed) ≡ Passed
-  unfolding callFault
-  buffers-long = andThen-right (firstFault b) _ no-fault
-
-  cleared-long : offerCount b ≤ length cleared
-  unfolding bufferFault
-  cleared-long =
-      leb-true (offerCount b) (length cleared) (unless-passed (leb (offerCount b) (length cleared)) 9 1 (andThen-left _ _ buffers-long))
-
-  committed-long : offerCount b ≤ length committed
-  unfolding bufferFault
-  committed-long =
-      leb-true (offerCount b) (length committed) (unless-passed (leb (offerCount b) (length committed)) 9 2
-      (andThen-right (unless (leb (offerCount b) (length cleared)) (shortBuffer 1)) _ buffers-long))
-
   -- each row's cleared tenths stand in the first buffer
   pub cleared-row : (row : ℕ) → row < offerCount b → getD cleared′ row 0 ≡ rowCleared b (bookParameters b) row
   cleared-row row l =
       ap (λ (xs : List ℕ). getD xs row 0) (out .cleared-holds ∙ buffer-passed _ _ _ no-fault)
-      ∙ getD-filled (rowCleared b (bookParameters b)) (offerCount b) cleared row 0 cleared-long l
+      ∙ getD-filled (rowCleared b (bookParameters b)) (offerCount b) cleared row 0 (callable .cleared-long) l
 
   -- each row's committed tenths stand in the second
   pub committed-row : (row : ℕ) → row < offerCount b → getD committed′ row 0 ≡ rowCommitted b (bookParameters b) row
   committed-row row l =
       ap (λ (xs : List ℕ). getD xs row 0) (out .committed-holds ∙ buffer-passed _ _ _ no-fault)
-      ∙ getD-filled (rowCommitted b (bookParameters b)) (offerCount b) committed row 0 committed-long l
+      ∙ getD-filled (rowCommitted b (bookParameters b)) (offerCount b) committed row 0 (callable .committed-long) l
 
 -- ---- a refusal
 

@@ -44,6 +44,10 @@ abbrev pub answerBy : Verdict → Clearing → Answer
 answerBy Passed clearing = Answer·Cleared clearing
 answerBy (Refused number place) clearing = Answer·Refused number place
 
+-- the answer where no buffer is asked for: the book's own first fault, or its clearing
+abbrev pub answerOf : List ℕ → Answer
+answerOf b = answerBy (firstFault b) (clearingOf b (bookParameters b))
+
 -- a refusal leaves a buffer as it was
 abbrev pub bufferBy : Verdict → List ℕ → List ℕ → List ℕ
 bufferBy Passed before after = after

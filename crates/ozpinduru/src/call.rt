@@ -14,8 +14,10 @@ ghost use Prim.Native.Nat.{_≤_};
 ghost use lib.ListN.{length};
 ghost use Rattle.values.specs.declared.Verdict.the-variants.{Passed};
 ghost use Rattle.layout.specs.Form.{offerCount};
+ghost use Rattle.layout.specs.Read.{bookParameters};
 ghost use Rattle.book.specs.Faults.{firstFault};
-ghost use Rattle.ozpinduru.specs.Answer.{Outcome, ClearedInto, callFault};
+ghost use Rattle.ozpinduru.specs.Payment.{ClearedAs};
+ghost use Rattle.ozpinduru.specs.Answer.{Outcome, ClearedInto, answerOf, callFault};
 
 // The first fault of a call with result buffers of these lengths: the book's own, then 9 at the buffer that is too short.
 pub fn call_fault(book: &[u8], cleared: usize, committed: usize) -> Verdict
@@ -34,6 +36,28 @@ pub fn call_fault(book: &[u8], cleared: usize, committed: usize) -> Verdict
     Verdict::Passed
 }
 
+// What the rows of an accepted book clear, with each row's amount.
+fn clear_rows(book: &[u8], amounts: &mut [u32]) -> Clearing
+    requires { ⌜ firstFault (now book) ≡ Passed ⌝ }
+    requires { ⌜ offerCount (now book) ≤ length (now amounts) ⌝ }
+    ensures { λ r. ⌜ ClearedAs (now (book .entry)) (bookParameters (now (book .entry))) (offerCount (now (book .entry))) (now (amounts .entry)) r (now (amounts .exit)) ⌝ }
+{
+    let n = offer_count(book) as usize;
+    let p = parameters_in(&book[0..SIZE]);
+    clearing(book, p, n, amounts)
+}
+
+// What a book clears, with no result buffers: the answer that `clear` gives where its buffers are long enough.
+pub fn answer(book: &[u8]) -> Answer
+    ensures { λ r. ⌜ r ≡ answerOf (now (book .entry)) ⌝ }
+{
+    if let Verdict::Refused(number, place) = verdict(book) {
+        return Answer::Refused(number, place);
+    }
+    let mut amounts = [0u32; 600];
+    Answer::Cleared(clear_rows(book, &mut amounts))
+}
+
 // Clears an accepted book into buffers that are long enough.
 fn clear_accepted(book: &[u8], cleared: &mut [u32], committed: &mut [u32]) -> Clearing
     requires { ⌜ firstFault (now book) ≡ Passed ⌝ }
@@ -42,9 +66,8 @@ fn clear_accepted(book: &[u8], cleared: &mut [u32], committed: &mut [u32]) -> Cl
     ensures { λ r. ⌜ ClearedInto (now (book .entry)) (now (cleared .entry)) (now (committed .entry)) r (now (cleared .exit)) (now (committed .exit)) ⌝ }
 {
     let n = offer_count(book) as usize;
-    let p = parameters_in(&book[0..SIZE]);
     let mut amounts = [0u32; 600];
-    let c = clearing(book, p, n, &mut amounts);
+    let c = clear_rows(book, &mut amounts);
     fill(&amounts, n, cleared);
     commit(book, n, &amounts, committed);
     c

@@ -43,7 +43,7 @@ fn make_whole_all(book: &[u8], n: usize, price: ClearingPrice, amounts: &[u32]) 
 }
 
 // The committed tenths of n rows, into a buffer.
-pub fn commit(book: &[u8], n: usize, amounts: &[u32], out: &mut [u32])
+pub(crate) fn commit(book: &[u8], n: usize, amounts: &[u32], out: &mut [u32])
     requires { ⌜ Inside (now book) n × (n ≤ length (now amounts)) × (n ≤ length (now out)) ⌝ }
     ensures { λ r. ⌜ now (out .exit) ≡ filled (commitmentOf (now (book .entry)) (λ i. getD (now (amounts .entry)) i 0)) n (now (out .entry)) ⌝ }
 {
@@ -60,7 +60,7 @@ pub fn days_of(year: u32) -> u64
 }
 
 // What n rows clear under parameters, with each row's amount: the call that answers with no result buffers.
-pub fn clearing(book: &[u8], p: Parameters, n: usize, amounts: &mut [u32]) -> Clearing
+pub(crate) fn clearing(book: &[u8], p: Parameters, n: usize, amounts: &mut [u32]) -> Clearing
     requires { ⌜ Clearable (now book) p n × (n ≤ length (now amounts)) ⌝ }
     ensures { λ r. ⌜ ClearedAs (now (book .entry)) p n (now (amounts .entry)) r (now (amounts .exit)) ⌝ }
 {

@@ -43,7 +43,7 @@ fn terms_of(p: Parameters) -> Terms
 }
 
 // The sale of the rows of five columns on a curve, with what each row clears.
-pub fn sell_columns(
+pub(crate) fn sell_columns(
     c: Curve,
     prices: &[u32],
     quantities: &[u32],
@@ -78,7 +78,7 @@ pub fn sell_columns(
 }
 
 // The sale of n rows of a book under parameters, with what each row clears.
-pub fn sell(book: &[u8], p: Parameters, n: usize, amounts: &mut [u32]) -> Sale
+pub(crate) fn sell(book: &[u8], p: Parameters, n: usize, amounts: &mut [u32]) -> Sale
     requires { ⌜ Clearable (now book) p n × (n ≤ length (now amounts)) ⌝ }
     ensures { λ r. ⌜ SoldAs (now (book .entry)) p n (now (amounts .entry)) r (now (amounts .exit)) ⌝ }
 {

@@ -1,12 +1,11 @@
 -- `clear_accepted` clears an accepted book into its buffers.
 -- Assumes nothing.
-use mathlib.Core.Path.{_≡_, sym, subst}
+use mathlib.Core.Path.{_≡_, sym, subst, refl}
 use Rattle.laws.proofs.Filling.{length-zeros, length-filling}
-use Rattle.layout.specs.Blocks.{blockOf}
-use Rattle.layout.specs.Read.{bookParameters, Inside}
+use Rattle.layout.specs.Read.{Inside}
 use Rattle.layout.proofs.Passing.{form-passed-length}
 use Rattle.book.proofs.Accepted.{accepted-form, accepted-inside}
-use Rattle.ozpinduru.proofs.Calls.{read-clearable, cleared-into}
+use Rattle.ozpinduru.proofs.Calls.{cleared-into, cleared-same}
 use native.Mathlib.Omega.{arith}
 use borrow.Author.Needs.{needs}
 use Rattle.ozpinduru.proofs.call.clear_accepted.Statement.{statement}
@@ -18,31 +17,11 @@ offer-count-requires c κs = form-passed-length _ (accepted-form _ (c .before .b
 cast-n : tie.Need-cast-n
 cast-n c = search needs
 
-sub-parameters-in : tie.Need-sub-parameters-in
-sub-parameters-in c = search needs
+slice-aggregate-clear-rows : tie.Need-slice-aggregate-clear-rows
+slice-aggregate-clear-rows c = search needs
 
-part-parameters-in-start : tie.Need-part-parameters-in-start
-part-parameters-in-start c = search needs
-
-part-parameters-in-end : tie.Need-part-parameters-in-end
-part-parameters-in-end c = form-passed-length _ (accepted-form _ (c .before .before .before .before .pre .0))
-
-parameters-in-requires : tie.Need-parameters-in-requires
-parameters-in-requires c κs = search needs
-
-slice-aggregate-clearing : tie.Need-slice-aggregate-clearing
-slice-aggregate-clearing c = search needs
-
--- what was read of block 0 are the book's parameters
-read-own : (c : tie.After-parameters-in) → c .parameters-in .result ≡ bookParameters (c .before .before .before .before .before .before .args .book .now)
-unfolding bookParameters blockOf
-read-own c = c .parameters-in .ensures
-
-clearing-requires : tie.Need-clearing-requires
-clearing-requires c κs =
-    let start = c .before .before .before .before .before .before .before in
-    let ok = read-clearable _ _ _ (start .pre .0) (read-own (c .before)) (c .before .before .before .offer-count .ensures .0) in
-    (ok, ok .inside .few)
+clear-rows-requires : tie.Need-clear-rows-requires
+clear-rows-requires c κs = let start = c .before .before .before .before .before in (start .pre .0, accepted-inside _ (start .pre .0) .few)
 
 slice-aggregate-fill : tie.Need-slice-aggregate-fill
 slice-aggregate-fill c = search needs
@@ -50,13 +29,13 @@ slice-aggregate-fill c = search needs
 fill-requires : tie.Need-fill-requires
 fill-requires c κs =
     let sold = c .before .before .before in
-    let count = sold .before .before .before .before .offer-count .ensures .0 in
-    let start = sold .before .before .before .before .before .before .before .before in (
+    let count = sold .before .before .offer-count .ensures .0 in
+    let start = sold .before .before .before .before .before .before in (
       omega (
         arith,
         count,
         accepted-inside _ (start .pre .0) .few,
-        length-filling _ _ _ (sold .clearing .ensures .amounts),
+        length-filling _ _ _ (sold .clear-rows .ensures .amounts),
         length-zeros 600,
       ),
       omega (arith, count, start .pre .1 .0),
@@ -68,11 +47,11 @@ slice-aggregate-commit c = search needs
 commit-requires : tie.Need-commit-requires
 commit-requires c κs =
     let sold = c .before .before .before .before .before .before .before .before in
-    let count = sold .before .before .before .before .offer-count .ensures .0 in
-    let start = sold .before .before .before .before .before .before .before .before in
+    let count = sold .before .before .offer-count .ensures .0 in
+    let start = sold .before .before .before .before .before .before in
     let inside = accepted-inside _ (start .pre .0) in (
       subst (Inside _) (sym count) inside,
-      omega (arith, count, inside .few, length-filling _ _ _ (sold .clearing .ensures .amounts), length-zeros 600),
+      omega (arith, count, inside .few, length-filling _ _ _ (sold .clear-rows .ensures .amounts), length-zeros 600),
       omega (arith, count, start .pre .1 .1),
     )
 
@@ -85,11 +64,10 @@ same-length-2 c = search needs
 returns : tie.Need-returns
 returns c =
     let sold = c .before .before .before .before .before .before .before .before .before .before .before in
-    let start = sold .before .before .before .before .before .before .before .before in
-    let count = sold .before .before .before .before .offer-count .ensures .0 in
-    cleared-into _ _ _ _ _ _ _ _ _ (read-own (sold .before .before)) count
-    (omega (arith, count, accepted-inside _ (start .pre .0) .few))
-    (sold .clearing .ensures)
+    let count = sold .before .before .offer-count .ensures .0 in
+    let start = sold .before .before .before .before .before .before in
+    cleared-into _ _ _ _ _ _ _ _ _ refl count (omega (arith, count, accepted-inside _ (start .pre .0) .few))
+    (cleared-same refl (sym count) (sold .clear-rows .ensures))
     (c .before .before .before .before .before .before .before .fill .ensures)
     (c .before .before .commit .ensures)
 
@@ -99,12 +77,8 @@ clear-accepted-spec =
     (tie.spec
     offer-count-requires
     cast-n
-    sub-parameters-in
-    part-parameters-in-start
-    part-parameters-in-end
-    parameters-in-requires
-    slice-aggregate-clearing
-    clearing-requires
+    slice-aggregate-clear-rows
+    clear-rows-requires
     slice-aggregate-fill
     fill-requires
     slice-aggregate-commit
