@@ -9,11 +9,17 @@ use Rattle.block.proofs.check.check_holds.Tie as tie
 first-sum-requires : tie.Need-first-sum-requires
 first-sum-requires c κs = search needs
 
+cast-if1 : tie.Need-cast-if1
+cast-if1 c = search needs
+
 u16-at-requires : tie.Need-u16-at-requires
 u16-at-requires c κs = search needs
 
 second-sum-requires : tie.Need-second-sum-requires
 second-sum-requires c κs = search needs
+
+cast-result : tie.Need-cast-result
+cast-result c = search needs
 
 u16-at-requires-2 : tie.Need-u16-at-requires-2
 u16-at-requires-2 c κs = search needs
@@ -43,8 +49,10 @@ check-holds-spec =
     tie.close
     (tie.spec
     first-sum-requires
+    cast-if1
     u16-at-requires
     second-sum-requires
+    cast-result
     u16-at-requires-2
     returns
     returns-2)

@@ -1,13 +1,13 @@
--- `second_sum` is the sum of bytes 0 to 507, each times its position counted from 1. The loop's invariant: the position is
--- the number of bytes passed, and the sum is theirs, each at most 255 × 508.
+-- `second_sum` is the sum of bytes 0 to 507, each times its position counted from 1, modulo
+-- 65,536. The loop's invariant: the position is the number of bytes passed, and the sum is theirs.
 -- Assumes nothing.
-use mathlib.Core.Path.{_≡_, ap, _∙_}
-use Prim.Native.Nat.{_≤_, _+_, _*_, _-_}
+use mathlib.Core.Path.{_≡_}
+use Prim.Native.Nat.{_≤_, _+_, _*_, _-_, _%_}
 use native.Mathlib.Nat.{mul-le-mul}
 use native.Mathlib.Omega.{arith}
 use borrow.Author.Needs.{needs}
 use Rattle.laws.specs.Sum.{sumTo}
-use Rattle.laws.proofs.Loops.{added-none, added-more}
+use Rattle.laws.proofs.Loops.{kept-none, kept-more, kept-all}
 use Rattle.block.specs.Bytes.{byte}
 use Rattle.block.specs.Check.{secondSum}
 use Rattle.block.proofs.check.second_sum.Statement.{statement}
@@ -15,13 +15,13 @@ use Rattle.block.proofs.check.second_sum.Tie as tie
 
 abbrev Inv-loop : tie.InvT-loop
 Inv-loop s sum₀ position₀ i₀ sum position i =
-    (i ≤ 508) × (position ≡ i) × (sum ≡ sumTo (λ j. byte s j * (j + 1)) i) × (sum ≤ 129540 * i)
+    (i ≤ 508) × (position ≡ i) × (sum ≡ sumTo (λ j. byte s j * (j + 1)) i % 65536)
 
 abbrev μ-loop : tie.MeasureT-loop
 μ-loop s sum₀ position₀ i₀ sum position i = 508 - i
 
 loop-holds : tie.Need-loop-holds Inv-loop μ-loop
-loop-holds c = (omega arith, omega arith, added-none _, omega arith)
+loop-holds c = (omega arith, omega arith, kept-none _ 65535)
 
 add-position : tie.Need-add-position Inv-loop μ-loop
 add-position c = search needs
@@ -37,11 +37,11 @@ weighed-most :
     (c : tie.After-wide Inv-loop μ-loop) → c .wide .result * (c .before .before .before .loop .position + 1) ≤ 129540
 weighed-most c = mul-le-mul {n₂ = 255} {m₂ = 508} (omega arith) (omega arith)
 
-mul-sum : tie.Need-mul-sum Inv-loop μ-loop
-mul-sum c = omega (arith, weighed-most c)
+mul-added : tie.Need-mul-added Inv-loop μ-loop
+mul-added c = omega (arith, weighed-most c)
 
-add-sum : tie.Need-add-sum Inv-loop μ-loop
-add-sum c = omega (arith, weighed-most c)
+added-requires : tie.Need-added-requires Inv-loop μ-loop
+added-requires c κs = weighed-most c
 
 add-i : tie.Need-add-i Inv-loop μ-loop
 add-i c = search needs
@@ -50,16 +50,12 @@ loop-less : tie.Need-loop-less Inv-loop μ-loop
 loop-less c = search needs
 
 loop-again : tie.Need-loop-again Inv-loop μ-loop
-loop-again c = (
-  omega arith,
-  omega arith,
-  added-more _ _ (c .before .before .before .loop .inv .2) (cc),
-  omega (arith, weighed-most c),
-)
+loop-again c =
+    (omega arith, omega arith, kept-more _ _ _ (c .before .before .before .before .loop .inv .2) (cc) (c .added .ensures))
 
 returns : tie.Need-returns Inv-loop μ-loop
 unfolding secondSum
-returns c = c .before .loop .inv .2 ∙ ap (sumTo _) (omega arith)
+returns c = kept-all _ _ (c .before .loop .inv .2) (omega arith)
 
 pub second-sum-spec : {M : Type 1} → statement M
 second-sum-spec =
@@ -71,8 +67,8 @@ second-sum-spec =
     add-position
     shared-slice-read-wide
     wide-requires
-    mul-sum
-    add-sum
+    mul-added
+    added-requires
     add-i
     loop-less
     loop-again
