@@ -236,20 +236,22 @@ def files():
     yield HOME / "stdout", "".join(lines).encode()
 
 
-def main():
-    made = dict(files())
-    stray = [path for path in (HOME / "data").glob("*") if path not in made]
+def keep(home, made):
+    """Writes the files of a program's folder, or with --check says which are not what the script makes."""
+    script = pathlib.Path(sys.argv[0]).name
+    stray = [path for path in (home / "data").glob("*") if path not in made]
     if sys.argv[1:] == ["--check"]:
         wrong = stray + [path for path, data in made.items() if not path.is_file() or path.read_bytes() != data]
         for path in wrong:
-            print(f"not what tests/make_books.py makes: {path.name}")
+            print(f"not what tests/{script} makes: {path.name}")
         print(f"{len(made) - 2} books compared with their making")
         sys.exit(1 if wrong else 0)
-    (HOME / "data").mkdir(parents=True, exist_ok=True)
+    (home / "data").mkdir(parents=True, exist_ok=True)
     for path in stray:
         path.unlink()
     for path, data in made.items():
         path.write_bytes(data)
 
 
-main()
+if __name__ == "__main__":
+    keep(HOME, dict(files()))
