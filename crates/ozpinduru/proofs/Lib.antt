@@ -8,3 +8,5 @@ pub mod Calls
 pub mod Demands
 pub mod Nothing
 pub mod Blocks
+pub mod Exports
+pub mod Exported
