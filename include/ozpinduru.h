@@ -1,6 +1,7 @@
 /* ozpinduru: clears a capacity auction of one region from a book of bytes.
  *
- * Link target/staticlib/libozpinduru.a, which `rt staticlib ozpinduru` makes: a C compiler needs no other library.
+ * Link target/staticlib/libozpinduru.a, which `rt staticlib ozpinduru` makes, for x86-64 Linux. Of the C library it uses
+ * memcpy and memset.
  *
  * Units. Quantities are tenths of a megawatt, prices whole cents per MW-day, amounts mills (tenths of a cent), costs
  * whole dollars per MW-year, the outage rate hundredths of a percent. No amount is rounded.
@@ -10,8 +11,8 @@
  * Every function answers every input: whatever bytes, lengths and numbers it is given, it returns one answer, and its
  * answer is proved to be the one that is described here. None keeps state, allocates, or looks at anything but its
  * arguments, so any number of threads may call at once, also on the same book. The buffers of one call must not overlap
- * each other or the book, and nobody else may write the book or use the buffers while the call runs. A call uses less than
- * 64 KiB of stack.
+ * each other or the book, and nobody else may write the book or use the buffers while the call runs. A call uses some
+ * 25 KiB of stack, as measured: no theorem bounds it, and tests/c runs calls on stacks of 64 KiB.
  *
  * A slice is a pointer and a number of entries, all of which may be read (and, of a buffer, written). Where the number is 0
  * the pointer is not followed and may be null; where it is not 0 the pointer must be valid and aligned to its entries.

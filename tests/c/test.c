@@ -283,7 +283,7 @@ static void make_whole(void)
 
 #define TIMES 50
 
-/* bytes: a call needs well under this */
+/* bytes of stack: a call needs well under this */
 #define STACK (64 * 1024)
 
 struct work {
