@@ -1,5 +1,4 @@
-#!/usr/bin/env python3
-"""Clears the book that ships with the project, or the one named: bindings/python/example.py [BOOK]"""
+"""Clears the book that ships with the project, or the one named: python3 bindings/python/example.py [BOOK]"""
 import pathlib
 import sys
 import ozpinduru

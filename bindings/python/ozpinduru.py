@@ -21,18 +21,18 @@ def _load() -> ctypes.CDLL:
     places = [pathlib.Path(named).absolute()] if named else [here / name, here.parent.parent / "build" / name]
     word, size, book, buffer = ctypes.c_uint32, ctypes.c_size_t, ctypes.c_char_p, ctypes.POINTER(ctypes.c_uint32)
     try:
-        library = ctypes.CDLL(str(next(filter(pathlib.Path.is_file, places), places[-1])))
+        c = ctypes.CDLL(str(next(filter(pathlib.Path.is_file, places), places[-1])))
         for function, result, arguments in [
-            (library.ozp_clear, struct("make_whole daily year", "kind total price number place"), [book, size] + [buffer, size] * 2),
-            (library.ozp_row, struct("stamp", "kind resource seller quantity price_kind price block_kind block"), [book, size, size]),
-            (library.ozp_curve, struct("", "kind p1 p2 p3 q1 q2 q3 number place"), [word] * 5),
-            (library.ozp_price_at, struct("", "kind price number place"), [word] * 6),
-            (library.ozp_make_whole, ctypes.c_uint64, [word] * 4),
+            (c.ozp_clear, struct("make_whole daily year", "kind total price number place"), [book, size] + [buffer, size] * 2),
+            (c.ozp_row, struct("stamp", "kind resource seller quantity price_kind price block_kind block"), [book, size, size]),
+            (c.ozp_curve, struct("", "kind p1 p2 p3 q1 q2 q3 number place"), [word] * 5),
+            (c.ozp_price_at, struct("", "kind price number place"), [word] * 6),
+            (c.ozp_make_whole, ctypes.c_uint64, [word] * 4),
         ]:
             function.restype, function.argtypes = result, arguments
     except (OSError, AttributeError) as error:
         raise ImportError(f"{error}: make it with bindings/python/build, or name it in OZPINDURU_LIB") from error
-    return library
+    return c
 
 
 _library = _load()
@@ -135,8 +135,7 @@ def clear(book: bytes) -> Clearing:
     a = _library.ozp_clear(data, len(data), cleared, most, committed, most)
     price = _held(a, a.kind, a.price)
     # Entries past the last row are not touched, and no row clears as much as the number they hold.
-    amounts = [(x, y) for x, y in zip(cleared, committed) if x != unset]
-    rows = [Row(x, y, _library.ozp_make_whole(a.kind, a.price, x, y)) for x, y in amounts]
+    rows = [Row(x, y, _library.ozp_make_whole(a.kind, a.price, x, y)) for x, y in zip(cleared, committed) if x != unset]
     return Clearing(a.total, price, a.make_whole, a.daily, a.year, rows)
 
 

@@ -1,19 +1,17 @@
 """Run by: python3 -m unittest discover -s bindings/python"""
 import os
 import pathlib
-import pickle
 import subprocess
 import sys
-import threading
 import unittest
+from concurrent.futures import ThreadPoolExecutor
 
 ROOT = pathlib.Path(__file__).resolve().parents[2]
 sys.path[:0] = [str(ROOT / "bindings" / "python"), str(ROOT / "tests")]
 from make_books import REFERENCE, THREE, book, many, offer  # noqa: E402
 from ozpinduru import Clearing, Curve, Fault, Offer, Refusal, Row, clear, curve, price_at, row  # noqa: E402
 
-ROWS = [Row(9_900, 9_900, 0), Row(67, 67, 0), Row(33, 50, 637_500)]
-ANSWER = Clearing(10_000, 37_500, 637_500, 375_637_500, 137_107_687_500, ROWS)
+ANSWER = Clearing(10_000, 37_500, 637_500, 375_637_500, 137_107_687_500, [Row(9_900, 9_900, 0), Row(67, 67, 0), Row(33, 50, 637_500)])
 
 
 class Calls(unittest.TestCase):
@@ -36,25 +34,19 @@ class Calls(unittest.TestCase):
                 self.assertEqual(said, verdict)
                 self.assertEqual([n for n in range(count + 1) if row(data, n)], list(range(count)))
 
-    def test_nothing_and_zero(self):
+    def test_zero_none_and_missing(self):
         self.assertEqual(clear(book([])), Clearing(0, None, 0, 0, 0, []))
         self.assertEqual(clear(book([offer(1, 50_001)])), Clearing(0, None, 0, 0, 0, [Row(0, 0, 0)]))
         self.assertEqual(clear(book([offer(1, 0, 11_000)])), Clearing(10_450, 0, 0, 0, 0, [Row(10_450, 10_450, 0)]))
         self.assertEqual([row(book([offer(1, price)]), 0).price for price in (0, None)], [0, None])
-
-    def test_refusal(self):
         with self.assertRaisesRegex(Refusal, r"^an offer has no price \(refused 6 at row 16\)$") as caught:
             clear(book(many(16) + [offer(99, None)]))
-        kept = pickle.loads(pickle.dumps(caught.exception))
-        self.assertEqual((kept.number, kept.place), (Fault.PRICE_MISSING, 16))
+        self.assertEqual((caught.exception.number, caught.exception.place), (Fault.PRICE_MISSING, 16))
 
     def test_two_threads(self):
-        found, start, books = {}, threading.Barrier(2), [book(THREE), book(many(600))]
-        work = lambda data: found.update({data: [clear(data) for _ in range(100 + start.wait() * 0)]})  # noqa: E731
-        threads = [threading.Thread(target=work, args=[data]) for data in books]
-        for step in [thread.start for thread in threads] + [thread.join for thread in threads]:
-            step()
-        self.assertEqual(found, {data: [clear(data)] * 100 for data in books})
+        books = [book(THREE), book(many(600))] * 50
+        with ThreadPoolExecutor(2) as pool:
+            self.assertEqual(list(pool.map(clear, books)), [clear(data) for data in books])
 
     def test_curve(self):
         self.assertEqual(curve(**REFERENCE), Curve(50_000, 18_750, 0, 9_900, 10_150, 10_450))
@@ -64,13 +56,11 @@ class Calls(unittest.TestCase):
             self.assertRaisesRegex(Refusal, "5 at field 3", call, **{**REFERENCE, "offset": 146_001, **last})
             self.assertRaises(OverflowError, call, **{**REFERENCE, "outage": 2**32 + 2_000, **last})
 
-    def test_arguments(self):
-        for call in (lambda: row(b"", -1), lambda: price_at(**REFERENCE, k=2**32), lambda: ANSWER.make_whole_of(-1)):
+    def test_misuse(self):
+        for call in (lambda: row(b"", -1), lambda: ANSWER.make_whole_of(-1), lambda: price_at(**REFERENCE, k=2**32)):
             self.assertRaises(OverflowError, call)
         for call in (lambda: clear(512), lambda: clear("RPMB"), lambda: row(b"", 0.0), lambda: curve(2026, None, 0, 0, 1_000)):
             self.assertRaises(TypeError, call)
-
-    def test_no_library(self):
         done = subprocess.run([sys.executable, "-c", "import ozpinduru"], cwd=ROOT / "bindings" / "python", text=True,
                               capture_output=True, env={**os.environ, "OZPINDURU_LIB": "/nowhere.so"})
-        self.assertRegex(done.stderr, "ImportError: no /nowhere.so: run bindings/python/build")
+        self.assertRegex(done.stderr, "ImportError: /nowhere.so: .*: make it with bindings/python/build")
