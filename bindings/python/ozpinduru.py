@@ -45,7 +45,7 @@ class Fault(enum.IntEnum):
         fault._value_, fault.where, fault.words = number, where, words
         return fault
 
-    LENGTH = 1, "book", "length not a multiple of 512, or under 512, or over 20,992"
+    LENGTH = 1, "place", "length not a multiple of 512, or under 512, or over 20,992"
     CHECK = 2, "block", "a block's check is wrong"
     LAYOUT = 3, "block", ("letters, edition, block number, counts, unused marks or bytes differ from the layout; "
                           "a value marked absent is not zero")
