@@ -45,16 +45,16 @@ class Fault(enum.IntEnum):
         fault._value_, fault.where, fault.words = number, where, words
         return fault
 
-    LENGTH = 1, "place", "length not a multiple of 512, or under 512, or over 20,992"
-    CHECK = 2, "block", "a block's check is wrong"
-    LAYOUT = 3, "block", ("letters, edition, block number, counts, unused marks or bytes differ from the layout; "
-                          "a value marked absent is not zero")
-    PARAMETER_MISSING = 4, "field", "a parameter is missing"
+    WRONG_LENGTH = 1, "place", "length not a multiple of 512, or under 512, or over 20,992"
+    WRONG_CHECK = 2, "block", "a block's check is wrong"
+    WRONG_LAYOUT = 3, "block", ("letters, edition, block number, counts, unused marks or bytes differ from the layout; "
+                                "a value marked absent is not zero")
+    MISSING_PARAMETER = 4, "field", "a parameter is missing"
     PARAMETER_OUT_OF_RANGE = 5, "field", "a parameter is out of range"
-    PRICE_MISSING = 6, "row", "an offer has no price"
+    NO_PRICE = 6, "row", "an offer has no price"
     OFFER_OUT_OF_RANGE = 7, "row", "an offer value is out of range"
-    RESOURCE_REPEATED = 8, "row", "a resource number stands in an earlier row"
-    BUFFER_SHORT = 9, "buffer", "a result buffer has fewer entries than offers"
+    REPEATED_RESOURCE = 8, "row", "a resource number stands in an earlier row"
+    SHORT_BUFFER = 9, "buffer", "a result buffer has fewer entries than offers"
 
 
 class Refusal(Exception):

@@ -41,7 +41,7 @@ class Calls(unittest.TestCase):
         self.assertEqual([row(book([offer(1, price)]), 0).price for price in (0, None)], [0, None])
         with self.assertRaisesRegex(Refusal, r"^an offer has no price \(refused 6 at row 16\)$") as caught:
             clear(book(many(16) + [offer(99, None)]))
-        self.assertEqual((caught.exception.number, caught.exception.place), (Fault.PRICE_MISSING, 16))
+        self.assertEqual((caught.exception.number, caught.exception.place), (Fault.NO_PRICE, 16))
 
     def test_two_threads(self):
         books = [book(THREE), book(many(600))] * 50
