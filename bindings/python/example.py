@@ -4,7 +4,7 @@ import sys
 import ozpinduru
 
 reference = pathlib.Path(__file__).resolve().parents[2] / "examples" / "reference.book"
-book = pathlib.Path(*sys.argv[1:] or [reference]).read_bytes()
+book = pathlib.Path(sys.argv[1] if sys.argv[1:] else reference).read_bytes()
 try:
     answer = ozpinduru.clear(book)
 except ozpinduru.Refusal as refusal:
