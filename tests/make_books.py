@@ -254,4 +254,8 @@ def keep(home, made):
 
 
 if __name__ == "__main__":
+<<<<<<< HEAD
     keep(HOME, dict(files()))
+=======
+    main()
+>>>>>>> wip-python

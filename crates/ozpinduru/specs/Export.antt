@@ -72,13 +72,13 @@ exported (Answer·Refused number place) =
     }
 
 -- the answer of a call with result buffers of these lengths
-abbrev pub answerOf : List ℕ → ℕ → ℕ → Answer
-answerOf b cleared committed = answerBy (callFault b cleared committed) (clearingOf b (bookParameters b))
+abbrev pub answerTo : List ℕ → ℕ → ℕ → Answer
+answerTo b cleared committed = answerBy (callFault b cleared committed) (clearingOf b (bookParameters b))
 
 -- what the exported call returns and leaves in both buffers
 pub record Returned (b cleared committed : List ℕ) (r : OzpAnswer) (cleared′ committed′ : List ℕ) : Type 0 where
-  pub answer : r ≡ exported (answerOf b (length cleared) (length committed))
-  pub outcome : Outcome b cleared committed (answerOf b (length cleared) (length committed)) cleared′ committed′
+  pub answer : r ≡ exported (answerTo b (length cleared) (length committed))
+  pub outcome : Outcome b cleared committed (answerTo b (length cleared) (length committed)) cleared′ committed′
 
 -- ---- a row
 
