@@ -254,8 +254,4 @@ def keep(home, made):
 
 
 if __name__ == "__main__":
-<<<<<<< HEAD
     keep(HOME, dict(files()))
-=======
-    main()
->>>>>>> wip-python
