@@ -1,15 +1,13 @@
 // Writes for each book that its arguments name the name on a line, and then what the program `clear` writes for it.
 use libc::STDOUT_FILENO;
 use report::put_report;
-use text::put_byte;
-use text::put_bytes;
 
 // Writes the name and the lines of a book.
 fn write_report(name: &[u8], book: &[u8]) {
+    io::write_all(STDOUT_FILENO, name);
+    io::write_all(STDOUT_FILENO, b"\n");
     let mut out = [0u8; 32768];
-    let named = put_bytes(&mut out, 0, name);
-    let lines = put_byte(&mut out, named, b'\n');
-    let end = put_report(&mut out, lines, book);
+    let end = put_report(&mut out, 0, book);
     io::write_all(STDOUT_FILENO, &out[..end]);
 }
 

@@ -1,18 +1,76 @@
--- A call that answers with a clearing was given an accepted book.
+-- The text of a report by what the call answered.
+--
+-- In order: buffers of 600 entries are never too short; a clearing was answered for an accepted book, and its lines are the
+-- book's; a refusal's line is the book's.
 -- Assumes nothing.
-use mathlib.Core.Path.{_≡_, subst}
-use mathlib.Core.List.{List}
-use Prim.Native.Nat.{ℕ}
-use Rattle.values.specs.declared.Verdict.the-variants.{Passed}
+use mathlib.Core.Path.{_≡_, refl, sym, ap, ap₂, subst, _∙_}
+use mathlib.Core.List.{List, _++_}
+use Prim.Native.Nat.{ℕ, _-_, _≤_, _<_}
+use native.Mathlib.Omega.{arith}
+use lib.ListN.{length, getD}
+use Rattle.auction.specs.Settlement.{mills}
+use Rattle.values.specs.declared.Verdict.{Verdict}
+use Rattle.values.specs.declared.Verdict.the-variants.{Passed, Refused}
+use Rattle.layout.specs.Form.{offerCount}
+use Rattle.layout.specs.Read.{bookParameters, bookOffer}
 use Rattle.book.specs.Faults.{firstFault}
-use Rattle.ozpinduru.specs.Answer.{Outcome}
+use Rattle.book.proofs.Accepted.{accepted-inside}
+use Rattle.ozpinduru.specs.Auction.{total, price, rowCleared, rowCommitted, rowMakeWhole, dailyTotal, yearTotal}
+use Rattle.ozpinduru.specs.Answer.{Outcome, callFault, clearingOf}
 use Rattle.ozpinduru.specs.declared.Clearing.{Clearing}
 use Rattle.ozpinduru.specs.declared.Answer.{Answer}
-use Rattle.ozpinduru.specs.declared.Answer.the-variants.{Cleared}
-use Rattle.ozpinduru.proofs.Outcomes.{cleared-accepted}
+use Rattle.ozpinduru.specs.declared.Answer.the-variants.{Cleared as Answer·Cleared, Refused as Answer·Refused}
+use Rattle.ozpinduru.proofs.Calls.{fault-book, fault-none}
+use Rattle.ozpinduru.proofs.Payments.{quoted-asPrice}
+use Rattle.ozpinduru.proofs.Outcomes.{cleared-accepted, cleared-clearing, cleared-row, committed-row, refused-first}
+use Rattle.report.specs.Lines.{clearedWord, dailyWord, yearWord, lineText, priceText, refusalText, rowText}
+use Rattle.report.specs.Report.{soldLine, soldText, clearingText, reportBy, reportText}
+use Rattle.report.proofs.Fitting.{rowsText-ext}
 
-pub answered-accepted : (b cleared committed : List ℕ) (answer : Answer) (clearing : Clearing) (cleared′ committed′ : List ℕ)
-    → Outcome b cleared committed answer cleared′ committed′ → answer ≡ Cleared clearing → firstFault b ≡ Passed
-answered-accepted b cleared committed answer clearing cleared′ committed′ out e =
-    cleared-accepted b cleared committed clearing cleared′ committed′
-    (subst (λ (a : Answer). Outcome b cleared committed a cleared′ committed′) e out)
+-- the first fault of a call with buffers of 600 entries is the book's
+fault-first : (b : List ℕ) (cleared committed : ℕ) (v : Verdict) → 600 ≤ cleared → 600 ≤ committed → firstFault b ≡ v
+    → callFault b cleared committed ≡ v
+fault-first b cleared committed Passed h k e =
+    let few = accepted-inside b e .few in
+    sym (fault-none b cleared committed e (omega (arith, few)) (omega (arith, few)))
+fault-first b cleared committed (Refused number place) h k e = sym (fault-book b cleared committed (firstFault b) number place refl e)
+
+module _ (b : List ℕ) where
+  -- the lines of the book's own clearing
+  sold-clearing : (cleared committed : List ℕ)
+      → ((row : ℕ) → row < offerCount b → getD cleared row 0 ≡ rowCleared b (bookParameters b) row)
+      → ((row : ℕ) → row < offerCount b → getD committed row 0 ≡ rowCommitted b (bookParameters b) row)
+      → soldText b (clearingOf b (bookParameters b)) cleared committed ≡ clearingText b
+  unfolding soldText clearingText clearingOf rowCommitted rowMakeWhole
+  sold-clearing cleared committed h k =
+      let p = bookParameters b in
+      let line : (row : ℕ) → ℕ → ℕ → List ℕ = λ row x y. rowText (bookOffer b row .resource) x y (mills (price b p) (y - x)) in
+      rw (quoted-asPrice (price b p))
+      (ap (λ (rows : List ℕ). lineText clearedWord (total b p) ++ priceText (price b p) ++ rows ++ lineText dailyWord (dailyTotal b p) ++ lineText yearWord (yearTotal b p))
+      (rowsText-ext _ _ (offerCount b) (λ row l. ap₂ (line row) (h row l) (k row l))))
+
+module _ (b cleared committed : List ℕ) (answer : Answer) (cleared′ committed′ : List ℕ)
+    (out : Outcome b cleared committed answer cleared′ committed′) where
+  as-answered : (a : Answer) → answer ≡ a → Outcome b cleared committed a cleared′ committed′
+  as-answered a e = subst (λ (x : Answer). Outcome b cleared committed x cleared′ committed′) e out
+
+  -- a clearing: the book was accepted
+  pub answered-accepted : (c : Clearing) → answer ≡ Answer·Cleared c → firstFault b ≡ Passed
+  answered-accepted c e = cleared-accepted b cleared committed c cleared′ committed′ (as-answered (Answer·Cleared c) e)
+
+  pub sold-reported : (c : Clearing) → answer ≡ Answer·Cleared c → soldText b c cleared′ committed′ ≡ reportText b
+  unfolding reportText
+  sold-reported c e =
+      let o = as-answered (Answer·Cleared c) e in
+      ap (λ (k : Clearing). soldText b k cleared′ committed′) (cleared-clearing b cleared committed c cleared′ committed′ o)
+      ∙ sold-clearing b cleared′ committed′ (cleared-row b cleared committed c cleared′ committed′ o)
+      (committed-row b cleared committed c cleared′ committed′ o)
+      ∙ sym (ap (λ (v : Verdict). reportBy v (clearingText b)) (answered-accepted c e))
+
+  pub refusal-reported : (number place : ℕ) → 600 ≤ length cleared → 600 ≤ length committed
+      → answer ≡ Answer·Refused number place → refusalText number place ≡ reportText b
+  unfolding reportText
+  refusal-reported number place h k e =
+      let first = refused-first b cleared committed number place cleared′ committed′ (as-answered (Answer·Refused number place) e) in
+      sym (ap (λ (v : Verdict). reportBy v (clearingText b))
+      (sym (fault-first b (length cleared) (length committed) (firstFault b) h k refl) ∙ first))

@@ -11,46 +11,61 @@ use text::put_bytes;
 use text::put_number;
 use values::place::offer_in;
 ghost use mathlib.Core.Path.{_≡_};
-ghost use Prim.Native.Nat.{_+_, _*_, _/_, _≤_};
+ghost use Prim.Native.Nat.{_+_, _*_, _/_, _-_, _≤_};
 ghost use lib.ListN.{length};
 ghost use Rattle.io.specs.Counts.{Counts};
 ghost use Rattle.values.specs.declared.Verdict.the-variants.{Passed};
-ghost use Rattle.layout.specs.Read.{Inside};
+ghost use Rattle.auction.specs.Settlement.{mills};
+ghost use Rattle.settle.specs.Read.{quoted};
+ghost use Rattle.layout.specs.Read.{Inside, bookOffer};
 ghost use Rattle.book.specs.Faults.{firstFault};
+ghost use Rattle.report.specs.Lines.{endedText, wordText, priceText, refusalText, rowText, rowsText, Fitted};
+ghost use Rattle.report.specs.Report.{soldLine, soldText, reportText};
 
 // Puts a number and one byte behind it.
 fn put_ended(out: &mut [u8], at: usize, number: u64, end: u8) -> usize
-    ensures { λ r. ⌜ Counts r (now (out .exit)) ⌝ }
+    requires { ⌜ at + 21 ≤ length (now out) ⌝ }
+    ensures { λ r. ⌜ Fitted (now (out .entry)) at (endedText number end) (now (out .exit)) r × (r ≤ at + 21) ⌝ }
 {
     let behind = put_number(out, at, number);
     put_byte(out, behind, end)
 }
 
-// Puts a line: a word and a number.
-fn put_line(out: &mut [u8], at: usize, word: &[u8], number: u64) -> usize
-    ensures { λ r. ⌜ Counts r (now (out .exit)) ⌝ }
+// Puts a number of 32 bits and one byte behind it: at most 11 bytes.
+fn put_short(out: &mut [u8], at: usize, number: u32, end: u8) -> usize
+    requires { ⌜ at + 21 ≤ length (now out) ⌝ }
+    ensures { λ r. ⌜ Fitted (now (out .entry)) at (endedText number end) (now (out .exit)) r × (r ≤ at + 11) ⌝ }
+{
+    put_ended(out, at, number as u64, end)
+}
+
+// Puts a word, a number and one byte behind it.
+fn put_word(out: &mut [u8], at: usize, word: &[u8], number: u64, end: u8) -> usize
+    requires { ⌜ at + length (now word) + 21 ≤ length (now out) ⌝ }
+    ensures { λ r. ⌜ Fitted (now (out .entry)) at (wordText (now (word .entry)) number end) (now (out .exit)) r × (r ≤ at + length (now (word .entry)) + 21) ⌝ }
 {
     let behind = put_bytes(out, at, word);
-    put_ended(out, behind, number, b'\n')
+    put_ended(out, behind, number, end)
 }
 
 // Puts the line of the price, and of no price.
 fn put_price(out: &mut [u8], at: usize, price: ClearingPrice) -> usize
-    ensures { λ r. ⌜ Counts r (now (out .exit)) ⌝ }
+    requires { ⌜ at + 27 ≤ length (now out) ⌝ }
+    ensures { λ r. ⌜ Fitted (now (out .entry)) at (priceText (quoted price)) (now (out .exit)) r × (r ≤ at + 27) ⌝ }
 {
     match price {
-        ClearingPrice::Price(cents) => put_line(out, at, b"price ", cents.0 as u64),
+        ClearingPrice::Price(cents) => put_word(out, at, b"price ", cents.0 as u64, b'\n'),
         ClearingPrice::NoPrice => put_bytes(out, at, b"price -\n"),
     }
 }
 
 // Puts the line of a refusal.
 fn put_refusal(out: &mut [u8], at: usize, number: u32, place: u32) -> usize
-    ensures { λ r. ⌜ Counts r (now (out .exit)) ⌝ }
+    requires { ⌜ at + 50 ≤ length (now out) ⌝ }
+    ensures { λ r. ⌜ Fitted (now (out .entry)) at (refusalText number place) (now (out .exit)) r ⌝ }
 {
-    let first = put_bytes(out, at, b"refused ");
-    let second = put_ended(out, first, number as u64, b' ');
-    put_ended(out, second, place as u64, b'\n')
+    let behind = put_word(out, at, b"refused ", number as u64, b' ');
+    put_short(out, behind, place, b'\n')
 }
 
 // Puts the line of a row: its resource, what it clears, what it commits and its make-whole.
@@ -60,14 +75,15 @@ fn put_row(
     resource: u32,
     cleared: u32,
     committed: u32,
-    mills: u64,
+    paid: u64,
 ) -> usize
-    ensures { λ r. ⌜ Counts r (now (out .exit)) ⌝ }
+    requires { ⌜ at + 54 ≤ length (now out) ⌝ }
+    ensures { λ r. ⌜ Fitted (now (out .entry)) at (rowText resource cleared committed paid) (now (out .exit)) r × (r ≤ at + 54) ⌝ }
 {
-    let first = put_ended(out, at, resource as u64, b' ');
-    let second = put_ended(out, first, cleared as u64, b' ');
-    let third = put_ended(out, second, committed as u64, b' ');
-    put_ended(out, third, mills, b'\n')
+    let first = put_short(out, at, resource, b' ');
+    let second = put_short(out, first, cleared, b' ');
+    let third = put_short(out, second, committed, b' ');
+    put_ended(out, third, paid, b'\n')
 }
 
 // Puts the line of a row of a book at a price.
@@ -81,7 +97,8 @@ fn put_offer(
     committed: u32,
 ) -> usize
     requires { ⌜ (1 + row / 15) * 512 + 512 ≤ length (now book) ⌝ }
-    ensures { λ r. ⌜ Counts r (now (out .exit)) ⌝ }
+    requires { ⌜ at + 54 ≤ length (now out) ⌝ }
+    ensures { λ r. ⌜ Fitted (now (out .entry)) at (rowText (bookOffer (now (book .entry)) row .resource) cleared committed (mills (quoted price) (committed - cleared))) (now (out .exit)) r × (r ≤ at + 54) ⌝ }
 {
     let o = offer_in(row_of(book, row));
     put_row(
@@ -104,9 +121,9 @@ fn put_rows(
     cleared: &[u32],
     committed: &[u32],
 ) -> usize
-    requires { ⌜ Counts at (now out) ⌝ }
     requires { ⌜ Inside (now book) n × (n ≤ length (now cleared)) × (n ≤ length (now committed)) ⌝ }
-    ensures { λ r. ⌜ Counts r (now (out .exit)) ⌝ }
+    requires { ⌜ at + 54 * n ≤ length (now out) ⌝ }
+    ensures { λ r. ⌜ Fitted (now (out .entry)) at (rowsText (soldLine (now (book .entry)) (quoted price) (now (cleared .entry)) (now (committed .entry))) n) (now (out .exit)) r × (r ≤ at + 54 * n) ⌝ }
 {
     let mut behind = at;
     for row in 0..n {
@@ -126,19 +143,22 @@ fn put_clearing(
 ) -> usize
     requires { ⌜ firstFault (now book) ≡ Passed ⌝ }
     requires { ⌜ (600 ≤ length (now cleared)) × (600 ≤ length (now committed)) ⌝ }
-    ensures { λ r. ⌜ Counts r (now (out .exit)) ⌝ }
+    requires { ⌜ at + 32768 ≤ length (now out) ⌝ }
+    ensures { λ r. ⌜ Fitted (now (out .entry)) at (soldText (now (book .entry)) c (now (cleared .entry)) (now (committed .entry))) (now (out .exit)) r ⌝ }
 {
     let n = offer_count(book) as usize;
     let price = c.price;
-    let first = put_line(out, at, b"cleared ", c.total as u64);
+    let first = put_word(out, at, b"cleared ", c.total as u64, b'\n');
     let second = put_price(out, first, price);
     let third = put_rows(out, second, book, n, price, cleared, committed);
-    let fourth = put_line(out, third, b"daily ", c.daily);
-    put_line(out, fourth, b"year ", c.year)
+    let fourth = put_word(out, third, b"daily ", c.daily, b'\n');
+    put_word(out, fourth, b"year ", c.year, b'\n')
 }
 
 // Puts what the call answers for a book.
 pub fn put_report(out: &mut [u8], at: usize, book: &[u8]) -> usize
+    requires { ⌜ at + 32768 ≤ length (now out) ⌝ }
+    ensures { λ r. ⌜ Fitted (now (out .entry)) at (reportText (now (book .entry))) (now (out .exit)) r ⌝ }
     ensures { λ r. ⌜ Counts r (now (out .exit)) ⌝ }
 {
     let mut cleared = [0u32; 600];

@@ -1,6 +1,7 @@
 -- `put_report` puts the lines of a clearing only where the call answered with one, and its book was accepted.
 -- Assumes nothing.
-use Rattle.report.proofs.Answers.{answered-accepted}
+use Rattle.report.proofs.Answers.{answered-accepted, sold-reported, refusal-reported}
+use Rattle.report.proofs.Fitting.{fitted-as}
 use native.Mathlib.Omega.{arith}
 use borrow.Author.Needs.{needs}
 use Rattle.report.proofs.put_report.Statement.{statement}
@@ -27,7 +28,7 @@ slice-aggregate-put-clearing-2 c = search needs
 put-clearing-requires : tie.Need-put-clearing-requires
 put-clearing-requires c κs =
     let called = c .before .before .before .before .before .before .before .before in
-    (answered-accepted _ _ _ _ _ _ _ (called .clear .ensures) (c .before .before .before .before .answer .given .1), (search needs, search needs))
+    (answered-accepted _ _ _ _ _ _ (called .clear .ensures) _ (c .before .before .before .before .answer .given .1), ((search needs, search needs), search needs))
 
 enum-known-answer-2 : tie.Need-enum-known-answer-2
 enum-known-answer-2 c = search needs
@@ -39,13 +40,21 @@ same-length : tie.Need-same-length
 same-length c = search needs
 
 returns : tie.Need-returns
-returns c = search needs
+returns c =
+    let called = c .before .before .before .before .before .before .before .before .before .before .before in
+    let same = sold-reported _ _ _ _ _ _ (called .clear .ensures) _ (c .before .before .before .before .before .before .before .answer .given .1) in
+    let f = fitted-as same (c .before .before .put-clearing .ensures) in
+    (f, f .written .counts)
 
 same-length-2 : tie.Need-same-length-2
 same-length-2 c = search needs
 
 returns-2 : tie.Need-returns-2
-returns-2 c = search needs
+returns-2 c =
+    let called = c .before .before .before .before .before .before .before .before .before in
+    let same = refusal-reported _ _ _ _ _ _ (called .clear .ensures) _ _ (search needs) (search needs) (c .before .before .before .before .before .answer2 .given .1) in
+    let f = fitted-as same (c .before .before .put-refusal .ensures) in
+    (f, f .written .counts)
 
 pub put-report-spec : {M : Type 1} → statement M
 put-report-spec =

@@ -1,9 +1,12 @@
--- `put_rows` puts the line of one row after another. The loop's invariant: the place counts within the buffer.
+-- `put_rows` puts the line of one row after another. The loop's invariant: the lines of the rows so far were put.
 -- Assumes nothing.
 use mathlib.Core.Path.{_≡_}
-use Prim.Native.Nat.{_-_, _≤_}
+use Prim.Native.Nat.{_+_, _-_, _*_, _≤_}
 use lib.ListN.{length}
-use Rattle.io.specs.Counts.{Counts}
+use Rattle.settle.specs.Read.{quoted}
+use Rattle.report.specs.Lines.{rowsText, Fitted}
+use Rattle.report.specs.Report.{soldLine}
+use Rattle.report.proofs.Fitting.{rows-none, rows-more, rows-counted}
 use native.Mathlib.Omega.{arith}
 use borrow.Author.Needs.{needs}
 use Rattle.report.proofs.put_rows.Statement.{statement}
@@ -11,13 +14,16 @@ use Rattle.report.proofs.put_rows.Tie as tie
 
 abbrev Inv-loop : tie.InvT-loop
 Inv-loop out₀ at book n price cleared committed behind₀ row₀ out behind row =
-    (row ≤ n) × (length out ≡ length out₀) × Counts behind out
+    (row ≤ n)
+    × (length out ≡ length out₀)
+    × Fitted out₀ at (rowsText (soldLine book (quoted price) cleared committed) row) out behind
+    × (behind ≤ at + 54 * row)
 
 abbrev μ-loop : tie.MeasureT-loop
 μ-loop out₀ at book n price cleared committed behind₀ row₀ out behind row = n - row
 
 loop-holds : tie.Need-loop-holds Inv-loop μ-loop
-loop-holds c = search needs
+loop-holds c = (search needs, search needs, rows-none _ (omega arith), omega arith)
 
 mul-put-offer : tie.Need-mul-put-offer Inv-loop μ-loop
 mul-put-offer c = search needs
@@ -34,7 +40,7 @@ shared-slice-read-put-offer-2 c = search needs
 put-offer-requires : tie.Need-put-offer-requires Inv-loop μ-loop
 put-offer-requires c κs =
     let l = c .before .before .before .before in
-    l .before .before .before .before .before .pre .1 .0 .within (l .loop .row) (omega arith)
+    (l .before .before .before .before .before .pre .0 .0 .within (l .loop .row) (omega arith), omega arith)
 
 add-row : tie.Need-add-row Inv-loop μ-loop
 add-row c = search needs
@@ -43,13 +49,18 @@ loop-less : tie.Need-loop-less Inv-loop μ-loop
 loop-less c = search needs
 
 loop-again : tie.Need-loop-again Inv-loop μ-loop
-loop-again c = search needs
+loop-again c =
+    let inv = c .before .before .before .before .before .before .before .loop .inv in
+    let put = c .before .before .put-offer .ensures in
+    (search needs, search needs, rows-more _ _ (inv .2) (put .0), omega (arith, inv .3, put .1))
 
 same-length : tie.Need-same-length Inv-loop μ-loop
 same-length c = search needs
 
 returns : tie.Need-returns Inv-loop μ-loop
-returns c = search needs
+returns c =
+    let inv = c .before .loop .inv in
+    (rows-counted _ (omega arith) (inv .2), omega (arith, inv .3))
 
 pub put-rows-spec : {M : Type 1} → statement M
 put-rows-spec =

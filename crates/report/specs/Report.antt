@@ -1,0 +1,49 @@
+-- The report of a book: for every string of bytes one text.
+-- Assumes nothing.
+use Prim.Native.Nat.{ℕ, _-_}
+use mathlib.Core.List.{List, _++_}
+use mathlib.Core.Option.{Option}
+use lib.ListN.{getD}
+use Rattle.auction.specs.Settlement.{mills}
+use Rattle.values.specs.declared.Verdict.{Verdict}
+use Rattle.values.specs.declared.Verdict.the-variants.{Passed, Refused}
+use Rattle.settle.specs.Read.{quoted}
+use Rattle.layout.specs.Form.{offerCount}
+use Rattle.layout.specs.Read.{bookParameters, bookOffer}
+use Rattle.book.specs.Faults.{firstFault}
+use Rattle.ozpinduru.specs.Auction.{total, price, rowCleared, rowCommitted, rowMakeWhole, dailyTotal, yearTotal}
+use Rattle.ozpinduru.specs.declared.Clearing.{Clearing}
+use Rattle.report.specs.Lines.{clearedWord, dailyWord, yearWord, lineText, priceText, refusalText, rowText, rowsText}
+
+-- a row's line, with what it clears and commits in two lists
+abbrev pub soldLine : List ℕ → Option ℕ → List ℕ → List ℕ → ℕ → List ℕ
+soldLine b quote cleared committed row =
+    rowText (bookOffer b row .resource) (getD cleared row 0) (getD committed row 0)
+    (mills quote (getD committed row 0 - getD cleared row 0))
+
+-- the lines of a clearing whose rows stand in two lists
+unfoldable pub soldText : List ℕ → Clearing → List ℕ → List ℕ → List ℕ
+soldText b c cleared committed =
+    lineText clearedWord (c .total)
+    ++ priceText (quoted (c .price))
+    ++ rowsText (soldLine b (quoted (c .price)) cleared committed) (offerCount b)
+    ++ lineText dailyWord (c .daily)
+    ++ lineText yearWord (c .year)
+
+-- the lines of an accepted book: X, the price, every row in book order, the daily and the year total
+unfoldable pub clearingText : List ℕ → List ℕ
+clearingText b =
+    let p = bookParameters b in
+    lineText clearedWord (total b p)
+    ++ priceText (price b p)
+    ++ rowsText (λ row. rowText (bookOffer b row .resource) (rowCleared b p row) (rowCommitted b p row) (rowMakeWhole b p row)) (offerCount b)
+    ++ lineText dailyWord (dailyTotal b p)
+    ++ lineText yearWord (yearTotal b p)
+
+-- a refusal's one line, or the lines of the clearing
+abbrev pub reportBy : Verdict → List ℕ → List ℕ
+reportBy Passed lines = lines
+reportBy (Refused number place) lines = refusalText number place
+
+unfoldable pub reportText : List ℕ → List ℕ
+reportText b = reportBy (firstFault b) (clearingText b)
