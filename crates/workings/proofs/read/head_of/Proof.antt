@@ -1,50 +1,56 @@
+-- `head_of` reads block 0 of a book whose form is right.
+-- Assumes nothing.
+use mathlib.Core.Path.{_≡_, sym, _∙_}
+use native.Mathlib.Omega.{arith}
+use Rattle.values.specs.declared.Verdict.the-variants.{Passed}
+use Rattle.layout.specs.Blocks.{blockOf}
+use Rattle.layout.specs.Form.{formFault}
+use Rattle.layout.specs.Read.{bookParameters}
+use Rattle.layout.proofs.Passing.{form-passed-length}
+use Rattle.workings.proofs.Offered.{head-unread, head-stated}
 use borrow.Author.Needs.{needs}
 use Rattle.workings.proofs.read.head_of.Statement.{statement}
 use Rattle.workings.proofs.read.head_of.Tie as tie
-use Rattle.workings.proofs.read.head_of.Reads as reads
-use Rattle.workings.proofs.read.head_of.Lts as lts
-use Rattle.layout.proofs.form.form.Reads as form-reads
-use Rattle.layout.proofs.reader.offer_count.Reads as offer-count-reads
-use Rattle.values.proofs.head.parameters_in.Reads as parameters-in-reads
 
--- src/read.rt:34:37
 form-requires : tie.Need-form-requires
 form-requires c κs = search needs
 
--- src/read.rt:35:9
 enum-told : tie.Need-enum-told
 enum-told c = search needs
 
--- src/read.rt:35:9
 returns : tie.Need-returns
-returns c = ?
+returns c = head-unread _ _ _ _ _ (sym (c .before .before .form .ensures) ∙ c .enum-told .given .1)
 
 enum-told-2 : tie.Need-enum-told-2
 enum-told-2 c = search needs
 
--- src/read.rt:37:32
+-- past the test the form passed
+formed : (c : tie.After-enum-told2) → formFault (c .before .before .before .before .args .book .now) ≡ Passed
+formed c = sym (c .before .before .form .ensures) ∙ c .enum-told2 .given .1
+
 sub-parameters-in : tie.Need-sub-parameters-in
 sub-parameters-in c = search needs
 
--- src/read.rt:37:32
 part-parameters-in-start : tie.Need-part-parameters-in-start
 part-parameters-in-start c = search needs
 
--- src/read.rt:37:32
 part-parameters-in-end : tie.Need-part-parameters-in-end
-part-parameters-in-end c = ?
+part-parameters-in-end c = omega (arith, form-passed-length _ (formed c))
 
--- src/read.rt:37:18
 parameters-in-requires : tie.Need-parameters-in-requires
 parameters-in-requires c κs = search needs
 
--- src/read.rt:37:49
 offer-count-requires : tie.Need-offer-count-requires
-offer-count-requires c κs = ?
+offer-count-requires c κs = form-passed-length _ (formed (c .before .before))
 
--- src/read.rt:31:1
+-- what was read of block 0 are the book's parameters
+read-own : (c : tie.After-parameters-in)
+    → c .parameters-in .result ≡ bookParameters (c .before .before .before .before .before .before .args .book .now)
+unfolding bookParameters blockOf
+read-own c = c .parameters-in .ensures
+
 returns-2 : tie.Need-returns-2
-returns-2 c = ?
+returns-2 c = head-stated _ _ _ _ _ (formed (c .before .before .before)) (read-own (c .before)) (c .offer-count .ensures .0)
 
 pub head-of-spec : {M : Type 1} → statement M
 head-of-spec =

@@ -1,61 +1,64 @@
+-- `share_at` is a row's share of its level.
+-- Assumes nothing.
+use Prim.Native.Nat.{_<_}
+use lib.ListN.{getD}
+use native.Mathlib.Omega.{arith}
+use Rattle.auction.specs.Offers.{Offers}
+use Rattle.market.specs.Rows.{listed}
+use Rattle.workings.proofs.Shared.{row-level, exact-fits, share-is}
 use borrow.Author.Needs.{needs}
 use Rattle.workings.proofs.share.share_at.Statement.{statement}
 use Rattle.workings.proofs.share.share_at.Tie as tie
-use Rattle.workings.proofs.share.share_at.Reads as reads
-use Rattle.workings.proofs.share.share_at.Lts as lts
-use Rattle.workings.proofs.share.level_at.Reads as level-at-reads
 
--- src/share.rt:63:52
 mul-level-at : tie.Need-mul-level-at
 mul-level-at c = search needs
 
--- src/share.rt:63:52
 shared-slice-read-level-at : tie.Need-shared-slice-read-level-at
 shared-slice-read-level-at c = search needs
 
--- src/share.rt:63:9
 level-at-requires : tie.Need-level-at-requires
 level-at-requires c κs = search needs
 
--- src/share.rt:64:17
 mul-exact : tie.Need-mul-exact
 mul-exact c = search needs
 
--- src/share.rt:64:17
 shared-slice-read-exact : tie.Need-shared-slice-read-exact
 shared-slice-read-exact c = search needs
 
--- src/share.rt:64:17
 cast-exact : tie.Need-cast-exact
-cast-exact c = ?
+cast-exact c = omega (arith, c .before .before .before .before .before .pre .0 .small _ (c .before .before .before .before .before .pre .1))
 
--- src/share.rt:64:42
 cast-exact-2 : tie.Need-cast-exact-2
 cast-exact-2 c = search needs
 
--- src/share.rt:64:17
 mul-exact-2 : tie.Need-mul-exact-2
-mul-exact-2 c = ?
+mul-exact-2 c =
+    let start = c .before .before .before .before .before .before in
+    omega (arith, exact-fits (getD (start .args .quantities .now) (start .args .row) 0) (c .before .before .level-at .result .amount) (start .pre .0 .small (start .args .row) (start .pre .1)) (omega arith))
 
--- src/share.rt:68:23
+abbrev offers : tie.Start → Offers
+offers s = listed (s .args .prices .now) (s .args .quantities .now) (s .args .n)
+
+-- the level of the row has something to sell
+sum-some : (c : tie.After-level-at) → 0 < c .level-at .result .sum
+sum-some c =
+    let start = c .before .before .before .before in
+    omega (arith, c .level-at .ensures .sum, row-level (offers start) (start .args .row) (start .pre .1) (start .pre .2))
+
 cast-t12 : tie.Need-cast-t12
 cast-t12 c = search needs
 
--- src/share.rt:68:15
 div-t13 : tie.Need-div-t13
-div-t13 c = ?
+div-t13 c = sum-some (c .before .before .before)
 
--- src/share.rt:69:28
 cast-t14 : tie.Need-cast-t14
 cast-t14 c = search needs
 
--- src/share.rt:69:20
 rem-t15 : tie.Need-rem-t15
-rem-t15 c = ?
+rem-t15 c = sum-some (c .before .before .before .before)
 
--- src/share.rt:59:1
 returns : tie.Need-returns
-returns c = ?
+returns c = share-is _ _ _ _ (c .before .before .before .before .level-at .ensures)
 
 pub share-at-spec : {M : Type 1} → statement M
 share-at-spec =
