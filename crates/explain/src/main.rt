@@ -24,6 +24,7 @@ use workings::read::Head;
 use workings::read::RowOffer;
 use workings::read::head_of;
 use workings::read::offer_of;
+use workings::read::rows_of;
 use workings::share::RowShare;
 use workings::works;
 
@@ -69,14 +70,6 @@ fn put_worked(out: &mut [u8], at: usize, book: &[u8], row: usize, price: Clearin
     put_row(out, at, row, o, s, price, cleared, committed)
 }
 
-// How many offers a book states.
-fn offers_of(book: &[u8]) -> usize {
-    match head_of(book) {
-        Head::Stated(_, offers) => offers as usize,
-        Head::Unread => 0,
-    }
-}
-
 // The days of the delivery year of a book.
 fn book_days(book: &[u8]) -> u64 {
     match head_of(book) {
@@ -87,23 +80,26 @@ fn book_days(book: &[u8]) -> u64 {
 
 // Puts the rows of an accepted book, and writes whenever the buffer is nearly full.
 fn put_rows(out: &mut [u8], at: usize, book: &[u8], price: ClearingPrice, cleared: &[u32; 600], committed: &[u32; 600]) -> usize {
-    let n = offers_of(book);
+    let n = rows_of(book);
     let mut place = at;
-    for row in 0..600 {
-        if row < n {
-            place = make_room(out, place);
-            place = put_worked(out, place, book, row, price, cleared[row], committed[row]);
-        }
+    for row in 0..n {
+        place = make_room(out, place);
+        place = put_worked(out, place, book, row, price, cleared[row], committed[row]);
     }
     place
 }
 
-// Puts the totals.
-fn put_totals(out: &mut [u8], at: usize, c: Clearing, days: u64) -> usize {
+// Puts the daily total.
+fn put_daily(out: &mut [u8], at: usize, c: Clearing) -> usize {
     let at = put_bytes(out, at, b"\nThe daily total is ");
     let at = put_mills(out, at, c.daily);
     let at = put_bytes(out, at, b"\n  of which make-whole ");
-    let at = put_mills(out, at, c.make_whole);
+    put_mills(out, at, c.make_whole)
+}
+
+// Puts both totals.
+fn put_totals(out: &mut [u8], at: usize, c: Clearing, days: u64) -> usize {
+    let at = put_daily(out, at, c);
     let at = put_counted(out, at, b"\nThe year total, ", days);
     let at = put_bytes(out, at, b" times as much, is ");
     let at = put_mills(out, at, c.year);

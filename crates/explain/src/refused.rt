@@ -40,15 +40,19 @@ fn put_refused(out: &mut [u8], at: usize, number: u32, kind: &[u8], place: u32) 
     put_bytes(out, at, b": ")
 }
 
+// Puts that a book which fills all that is read may be longer.
+fn put_or_more(out: &mut [u8], at: usize, bytes: usize) -> usize {
+    if bytes < READ {
+        return put_bytes(out, at, b" bytes");
+    }
+    put_bytes(out, at, b" bytes or more")
+}
+
 // 1: the length.
 fn put_length(out: &mut [u8], at: usize, bytes: usize) -> usize {
     let at = put_counted(out, at, b"refused 1 at 0: the length is ", bytes as u64);
-    let at = if bytes < READ {
-        put_bytes(out, at, b" bytes; it has to be a multiple")
-    } else {
-        put_bytes(out, at, b" bytes or more; it has to be a multiple")
-    };
-    put_bytes(out, at, b" of 512,\nfrom 512 to 20992\n")
+    let at = put_or_more(out, at, bytes);
+    put_bytes(out, at, b"; it has to be a multiple of 512,\nfrom 512 to 20992\n")
 }
 
 // 2: a block's check.

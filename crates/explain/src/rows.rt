@@ -6,7 +6,6 @@ use crate::words::put_price;
 use market::price::ClearingPrice;
 use settle::make_whole;
 use text::put_bytes;
-use text::put_number;
 use values::Value;
 use values::number_held;
 use values::place::Offer;
@@ -41,11 +40,16 @@ fn put_level(out: &mut [u8], at: usize, s: Share) -> usize {
     put_megawatts(out, at, s.sum)
 }
 
-// Puts the exact part of the level, rounded down, with its remainder.
-fn put_part(out: &mut [u8], at: usize, quantity: u32, s: Share) -> usize {
+// Puts the exact part of the level: the quantity times the level's amount, over its sum.
+fn put_exact(out: &mut [u8], at: usize, quantity: u32, s: Share) -> usize {
     let at = put_counted(out, at, b"\n  its share is ", quantity as u64);
     let at = put_counted(out, at, b" x ", s.amount as u64);
-    let at = put_counted(out, at, b" / ", s.sum as u64);
+    put_counted(out, at, b" / ", s.sum as u64)
+}
+
+// Puts the exact part, rounded down, with its remainder.
+fn put_part(out: &mut [u8], at: usize, quantity: u32, s: Share) -> usize {
+    let at = put_exact(out, at, quantity, s);
     let at = put_counted(out, at, b" = ", s.down);
     let at = put_counted(out, at, b", remainder ", s.remainder);
     put_counted(out, at, b" / ", s.sum as u64)

@@ -19,6 +19,11 @@ abbrev pub headBy : Verdict → Parameters → ℕ → Head
 headBy Passed p offers = Stated p offers
 headBy (Refused number place) p offers = Unread
 
+-- the rows that can be read
+abbrev pub rowsBy : Verdict → ℕ → ℕ
+rowsBy Passed offers = offers
+rowsBy (Refused number place) offers = 0
+
 -- the offer that a row's own bytes hold; of a row that isn't there the reader hands back an empty part
 abbrev pub offerBy : List ℕ → RowOffer
 offerBy part = cond (ltb (length part) 32) RowOffer·Unread (Offered (offerOf part))

@@ -9,9 +9,10 @@ use values::head::parameters_in;
 use values::place::Offer;
 use values::place::offer_in;
 ghost use mathlib.Core.Path.{_≡_};
+ghost use Prim.Native.Nat.{_≤_};
 ghost use Rattle.layout.specs.Form.{formFault, offerCount, rowPart};
 ghost use Rattle.layout.specs.Read.{bookParameters};
-ghost use Rattle.workings.specs.Read.{headBy, offerBy};
+ghost use Rattle.workings.specs.Read.{headBy, rowsBy, offerBy};
 
 // What block 0 states: the parameters, and how many offers follow.
 pub enum Head {
@@ -35,6 +36,16 @@ pub fn head_of(book: &[u8]) -> Head
         return Head::Unread;
     }
     Head::Stated(parameters_in(&book[0..SIZE]), offer_count(book))
+}
+
+// How many rows can be read: all that a book states, and none of one refused by 1 to 3.
+pub fn rows_of(book: &[u8]) -> usize
+    ensures { λ r. ⌜ (r ≡ rowsBy (formFault (now (book .entry))) (offerCount (now (book .entry)))) × (r ≤ 600) ⌝ }
+{
+    if let Verdict::Refused(_, _) = form(book) {
+        return 0;
+    }
+    offer_count(book) as usize
 }
 
 // The offer of a row, read from its own bytes.
