@@ -10,7 +10,14 @@ use workings::stop::Stop;
 use workings::stop::Tenth;
 
 // Puts a point of the curve.
-fn put_point(out: &mut [u8], at: usize, price: &[u8], cents: u32, quantity: &[u8], tenths: u32) -> usize {
+fn put_point(
+    out: &mut [u8],
+    at: usize,
+    price: &[u8],
+    cents: u32,
+    quantity: &[u8],
+    tenths: u32,
+) -> usize {
     let at = put_bytes(out, at, price);
     let at = put_price(out, at, cents);
     let at = put_bytes(out, at, quantity);
@@ -22,7 +29,11 @@ fn put_point(out: &mut [u8], at: usize, price: &[u8], cents: u32, quantity: &[u8
 fn put_curve(out: &mut [u8], at: usize, c: Curve) -> usize {
     let p1 = c.p1;
     let p2 = c.p2;
-    let at = put_bytes(out, at, b"The curve, in dollars per MW-day (cents) and MW (tenths)\n");
+    let at = put_bytes(
+        out,
+        at,
+        b"The curve, in dollars per MW-day (cents) and MW (tenths)\n",
+    );
     let at = put_point(out, at, b"  P1 ", p1.0, b" up to Q1 ", c.q1);
     let at = put_point(out, at, b"  P2 ", p2.0, b" at Q2 ", c.q2);
     let at = put_point(out, at, b"  P3 ", 0, b" at Q3 ", c.q3);
@@ -46,7 +57,11 @@ fn put_next(out: &mut [u8], at: usize, next: Next) -> usize {
             let at = put_tenth(out, at, b"  at X + 1 the curve price is ", t);
             put_bytes(out, at, b"  that is less than X + 1, so X stops here\n\n")
         }
-        Next::NoMore => put_bytes(out, at, b"  X is Q3, the last point of the curve, so X stops here\n\n"),
+        Next::NoMore => put_bytes(
+            out,
+            at,
+            b"  X is Q3, the last point of the curve, so X stops here\n\n",
+        ),
     }
 }
 
@@ -75,7 +90,11 @@ fn put_setter(out: &mut [u8], at: usize, curve_price: u32, next_price: u32) -> u
 // Puts the next price: that of the level at which the total stops, where it has more.
 fn put_next_price(out: &mut [u8], at: usize, level: Level, curve_price: u32) -> usize {
     if level.reach <= level.total {
-        return put_bytes(out, at, b"  no price has more than X offered at it or below: the curve sets the price\n");
+        return put_bytes(
+            out,
+            at,
+            b"  no price has more than X offered at it or below: the curve sets the price\n",
+        );
     }
     let at = put_bytes(out, at, b"  more than X is offered at ");
     let at = put_price(out, at, level.price);
@@ -108,12 +127,22 @@ fn put_set(out: &mut [u8], at: usize, stop: Stop, cents: u32) -> usize {
 fn put_clearing_price(out: &mut [u8], at: usize, stop: Stop, price: ClearingPrice) -> usize {
     match price {
         ClearingPrice::Price(cents) => put_set(out, at, stop, cents.0),
-        ClearingPrice::NoPrice => put_bytes(out, at, b"nothing cleared, so there is no price; no price is not a price of zero\n"),
+        ClearingPrice::NoPrice => put_bytes(
+            out,
+            at,
+            b"nothing cleared, so there is no price; no price is not a price of zero\n",
+        ),
     }
 }
 
 // Puts what the curve buys.
-pub fn put_bought(out: &mut [u8], at: usize, stop: Stop, total: u32, price: ClearingPrice) -> usize {
+pub fn put_bought(
+    out: &mut [u8],
+    at: usize,
+    stop: Stop,
+    total: u32,
+    price: ClearingPrice,
+) -> usize {
     let at = put_curve(out, at, stop.curve);
     let at = put_total(out, at, stop, total);
     let at = put_clearing_price(out, at, stop, price);

@@ -56,7 +56,15 @@ fn put_market(out: &mut [u8], at: usize, book: &[u8], c: Clearing) -> usize {
 }
 
 // Puts a row of an accepted book.
-fn put_worked(out: &mut [u8], at: usize, book: &[u8], row: usize, price: ClearingPrice, cleared: u32, committed: u32) -> usize {
+fn put_worked(
+    out: &mut [u8],
+    at: usize,
+    book: &[u8],
+    row: usize,
+    price: ClearingPrice,
+    cleared: u32,
+    committed: u32,
+) -> usize {
     let works::Answer::Worked(w) = works::workings(book, row) else {
         return at;
     };
@@ -79,7 +87,14 @@ fn book_days(book: &[u8]) -> u64 {
 }
 
 // Puts the rows of an accepted book, and writes whenever the buffer is nearly full.
-fn put_rows(out: &mut [u8], at: usize, book: &[u8], price: ClearingPrice, cleared: &[u32; 600], committed: &[u32; 600]) -> usize {
+fn put_rows(
+    out: &mut [u8],
+    at: usize,
+    book: &[u8],
+    price: ClearingPrice,
+    cleared: &[u32; 600],
+    committed: &[u32; 600],
+) -> usize {
     let n = rows_of(book);
     let mut place = at;
     for row in 0..n {
@@ -106,23 +121,29 @@ fn put_totals(out: &mut [u8], at: usize, c: Clearing, days: u64) -> usize {
     put_bytes(out, at, b"\n")
 }
 
-// Writes the account of a book.
-fn explain(out: &mut [u8], book: &[u8]) {
+// Puts the account of an accepted book.
+fn put_accepted(
+    out: &mut [u8],
+    at: usize,
+    book: &[u8],
+    c: Clearing,
+    cleared: &[u32; 600],
+    committed: &[u32; 600],
+) -> usize {
+    let price = c.price;
+    let at = put_market(out, at, book, c);
+    let at = put_rows(out, at, book, price, cleared, committed);
+    put_totals(out, at, c, book_days(book))
+}
+
+// Puts the account of a book.
+fn put_account(out: &mut [u8], at: usize, book: &[u8]) -> usize {
     let mut cleared = [0u32; 600];
     let mut committed = [0u32; 600];
-    let at = put_stated(out, 0, book);
+    let at = put_stated(out, at, book);
     match clear(book, &mut cleared, &mut committed) {
-        Answer::Refused(number, place) => {
-            let at = put_refusal(out, at, book, number, place);
-            write_out(out, at);
-        }
-        Answer::Cleared(c) => {
-            let price = c.price;
-            let at = put_market(out, at, book, c);
-            let at = put_rows(out, at, book, price, &cleared, &committed);
-            let at = put_totals(out, at, c, book_days(book));
-            write_out(out, at);
-        }
+        Answer::Refused(number, place) => put_refusal(out, at, book, number, place),
+        Answer::Cleared(c) => put_accepted(out, at, book, c, &cleared, &committed),
     }
 }
 
@@ -130,5 +151,6 @@ fn main() {
     let mut bytes = io::large_buffer();
     let length = io::read_full(STDIN_FILENO, &mut bytes);
     let mut out = io::large_buffer();
-    explain(&mut out, &bytes[..length]);
+    let at = put_account(&mut out, 0, &bytes[..length]);
+    write_out(&mut out, at);
 }

@@ -52,7 +52,11 @@ fn put_or_more(out: &mut [u8], at: usize, bytes: usize) -> usize {
 fn put_length(out: &mut [u8], at: usize, bytes: usize) -> usize {
     let at = put_counted(out, at, b"refused 1 at 0: the length is ", bytes as u64);
     let at = put_or_more(out, at, bytes);
-    put_bytes(out, at, b"; it has to be a multiple of 512,\nfrom 512 to 20992\n")
+    put_bytes(
+        out,
+        at,
+        b"; it has to be a multiple of 512,\nfrom 512 to 20992\n",
+    )
 }
 
 // 2: a block's check.
@@ -66,7 +70,11 @@ fn put_check(out: &mut [u8], at: usize, block: u32) -> usize {
 fn put_layout(out: &mut [u8], at: usize, block: u32) -> usize {
     let at = put_refused(out, at, 3, b"block ", block);
     let at = put_counted(out, at, b"block ", block as u64);
-    let at = put_bytes(out, at, b" differs from the layout: its letters, edition, number,\n");
+    let at = put_bytes(
+        out,
+        at,
+        b" differs from the layout: its letters, edition, number,\n",
+    );
     put_bytes(
         out,
         at,
@@ -116,8 +124,16 @@ fn put_values(out: &mut [u8], at: usize, o: Offer) -> usize {
 fn put_out_of_range(out: &mut [u8], at: usize, o: Offer) -> usize {
     let at = put_bytes(out, at, b" has a value out of range:\n");
     let at = put_values(out, at, o);
-    let at = put_bytes(out, at, b"\n  ranges: resource and seller 1 or more, price 0 to 1000000,");
-    put_bytes(out, at, b" quantity 1 to 200000,\n  minimum block 1 to the quantity\n")
+    let at = put_bytes(
+        out,
+        at,
+        b"\n  ranges: resource and seller 1 or more, price 0 to 1000000,",
+    );
+    put_bytes(
+        out,
+        at,
+        b" quantity 1 to 200000,\n  minimum block 1 to the quantity\n",
+    )
 }
 
 // The first row with a resource number; `row` where none stands before it.
@@ -134,8 +150,17 @@ fn first_row(book: &[u8], row: usize, resource: u32) -> usize {
 
 // 8: a resource number that stands in an earlier row.
 fn put_repeat(out: &mut [u8], at: usize, book: &[u8], row: u32, resource: u32) -> usize {
-    let at = put_bytes(out, at, b" has a resource number that stands in an earlier row");
-    let at = put_counted(out, at, b", row ", first_row(book, row as usize, resource) as u64);
+    let at = put_bytes(
+        out,
+        at,
+        b" has a resource number that stands in an earlier row",
+    );
+    let at = put_counted(
+        out,
+        at,
+        b", row ",
+        first_row(book, row as usize, resource) as u64,
+    );
     put_bytes(out, at, b"\n")
 }
 

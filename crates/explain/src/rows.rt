@@ -99,27 +99,54 @@ fn put_cleared(out: &mut [u8], at: usize, block: Value, cleared: u32, committed:
 // Puts why a row has no make-whole.
 fn put_no_whole(out: &mut [u8], at: usize, cleared: u32, committed: u32) -> usize {
     if cleared == 0 {
-        return put_bytes(out, at, b"\n  make-whole 0: nothing of the row cleared, so it commits nothing\n");
+        return put_bytes(
+            out,
+            at,
+            b"\n  make-whole 0: nothing of the row cleared, so it commits nothing\n",
+        );
     }
     if cleared < committed {
-        return put_bytes(out, at, b"\n  make-whole 0: it commits more than cleared, and the price is zero\n");
+        return put_bytes(
+            out,
+            at,
+            b"\n  make-whole 0: it commits more than cleared, and the price is zero\n",
+        );
     }
     put_bytes(out, at, b"\n  make-whole 0: it commits what cleared\n")
 }
 
 // Puts a row's make-whole, of which there is some.
-fn put_whole(out: &mut [u8], at: usize, price: ClearingPrice, cleared: u32, committed: u32) -> usize {
+fn put_whole(
+    out: &mut [u8],
+    at: usize,
+    price: ClearingPrice,
+    cleared: u32,
+    committed: u32,
+) -> usize {
     let mills = make_whole(price, cleared, committed);
     if mills == 0 {
         return put_no_whole(out, at, cleared, committed);
     }
     let at = put_bytes(out, at, b"\n  make-whole ");
     let at = put_mills(out, at, mills);
-    put_bytes(out, at, b" a day: the price on what it commits past what cleared\n")
+    put_bytes(
+        out,
+        at,
+        b" a day: the price on what it commits past what cleared\n",
+    )
 }
 
 // Puts a row.
-pub fn put_row(out: &mut [u8], at: usize, row: usize, o: Offer, s: Share, price: ClearingPrice, cleared: u32, committed: u32) -> usize {
+pub fn put_row(
+    out: &mut [u8],
+    at: usize,
+    row: usize,
+    o: Offer,
+    s: Share,
+    price: ClearingPrice,
+    cleared: u32,
+    committed: u32,
+) -> usize {
     let block = o.block;
     let at = put_offer(out, at, row, o);
     let at = put_share(out, at, o.quantity, s, cleared);

@@ -75,7 +75,12 @@ fn put_rates(out: &mut [u8], at: usize, p: Parameters) -> usize {
 
 // Puts the parameters and the number of offers.
 fn put_parameters(out: &mut [u8], at: usize, p: Parameters, offers: u32) -> usize {
-    let at = put_counted(out, at, b"The book states\n  delivery year          ", p.year as u64);
+    let at = put_counted(
+        out,
+        at,
+        b"The book states\n  delivery year          ",
+        p.year as u64,
+    );
     let at = put_bytes(out, at, b"\n");
     let at = put_costs(out, at, p);
     let at = put_rates(out, at, p);
