@@ -18,6 +18,7 @@ use refused::put_refusal;
 use rows::put_row;
 use stated::put_stated;
 use text::put_bytes;
+use words::put;
 use words::put_counted;
 use words::put_mills;
 use workings::read::Head;
@@ -104,11 +105,24 @@ fn put_rows(
     place
 }
 
+// Puts why a total is zero.
+fn put_zero_total(out: &mut [u8], at: usize, price: ClearingPrice, mills: u64) -> usize {
+    if mills != 0 {
+        return at;
+    }
+    match price {
+        ClearingPrice::Price(_) => put(out, at, b": the price is zero"),
+        ClearingPrice::NoPrice => put(out, at, b": with no price every amount is zero"),
+    }
+}
+
 // Puts the daily total.
 fn put_daily(out: &mut [u8], at: usize, c: Clearing) -> usize {
-    let at = put_bytes(out, at, b"\nThe daily total is ");
+    let price = c.price;
+    let at = put(out, at, b"\nThe daily total is ");
     let at = put_mills(out, at, c.daily);
-    let at = put_bytes(out, at, b"\n  of which make-whole ");
+    let at = put_zero_total(out, at, price, c.daily);
+    let at = put(out, at, b"\n  of which make-whole ");
     put_mills(out, at, c.make_whole)
 }
 
@@ -116,9 +130,9 @@ fn put_daily(out: &mut [u8], at: usize, c: Clearing) -> usize {
 fn put_totals(out: &mut [u8], at: usize, c: Clearing, days: u64) -> usize {
     let at = put_daily(out, at, c);
     let at = put_counted(out, at, b"\nThe year total, ", days);
-    let at = put_bytes(out, at, b" times as much, is ");
+    let at = put(out, at, b" times as much, is ");
     let at = put_mills(out, at, c.year);
-    put_bytes(out, at, b"\n")
+    put(out, at, b"\n")
 }
 
 // Puts the account of an accepted book.

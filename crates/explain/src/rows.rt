@@ -1,11 +1,11 @@
 // The rows: each with its offer, its share of its price level, and what it clears, commits and is paid.
+use crate::words::put;
 use crate::words::put_counted;
 use crate::words::put_megawatts;
 use crate::words::put_mills;
 use crate::words::put_price;
 use market::price::ClearingPrice;
 use settle::make_whole;
-use text::put_bytes;
 use values::Value;
 use values::number_held;
 use values::place::Offer;
@@ -15,9 +15,9 @@ use workings::share::Share;
 fn put_offered(out: &mut [u8], at: usize, price: Value) -> usize {
     let cents = number_held(price);
     if cents == 0 {
-        return put_bytes(out, at, b" offered at zero");
+        return put(out, at, b" offered at zero");
     }
-    let at = put_bytes(out, at, b" offered at ");
+    let at = put(out, at, b" offered at ");
     put_price(out, at, cents)
 }
 
@@ -26,7 +26,7 @@ fn put_offer(out: &mut [u8], at: usize, row: usize, o: Offer) -> usize {
     let price = o.price;
     let at = put_counted(out, at, b"row ", row as u64);
     let at = put_counted(out, at, b", resource ", o.resource as u64);
-    let at = put_bytes(out, at, b": ");
+    let at = put(out, at, b": ");
     let at = put_megawatts(out, at, o.quantity);
     let at = put_offered(out, at, price);
     put_counted(out, at, b", stamp ", o.stamp)
@@ -34,9 +34,9 @@ fn put_offer(out: &mut [u8], at: usize, row: usize, o: Offer) -> usize {
 
 // Puts what the row's level receives of what is offered at it.
 fn put_level(out: &mut [u8], at: usize, s: Share) -> usize {
-    let at = put_bytes(out, at, b"\n  its level receives ");
+    let at = put(out, at, b"\n  its level receives ");
     let at = put_megawatts(out, at, s.amount);
-    let at = put_bytes(out, at, b" of ");
+    let at = put(out, at, b" of ");
     put_megawatts(out, at, s.sum)
 }
 
@@ -58,19 +58,23 @@ fn put_part(out: &mut [u8], at: usize, quantity: u32, s: Share) -> usize {
 // Puts whether the row got a spare tenth.
 fn put_spare(out: &mut [u8], at: usize, s: Share, cleared: u32) -> usize {
     if s.down < cleared as u64 {
-        return put_bytes(out, at, b"; one spare tenth\n");
+        return put(out, at, b"; one spare tenth\n");
     }
-    put_bytes(out, at, b"; no spare tenth\n")
+    put(out, at, b"; no spare tenth\n")
 }
 
 // Puts a row's share of its level: of a whole or an empty level there is no fraction to work.
 fn put_share(out: &mut [u8], at: usize, quantity: u32, s: Share, cleared: u32) -> usize {
     let at = put_level(out, at, s);
     if s.amount == 0 {
-        return put_bytes(out, at, b": nothing, so the row clears nothing\n");
+        return put(
+            out,
+            at,
+            b": X leaves nothing for it, so the row clears nothing\n",
+        );
     }
     if s.amount == s.sum {
-        return put_bytes(out, at, b": all of it, so the row clears whole\n");
+        return put(out, at, b": all of it, so the row clears whole\n");
     }
     let at = put_part(out, at, quantity, s);
     put_spare(out, at, s, cleared)
@@ -80,18 +84,18 @@ fn put_share(out: &mut [u8], at: usize, quantity: u32, s: Share, cleared: u32) -
 fn put_block(out: &mut [u8], at: usize, block: Value) -> usize {
     match block {
         Value::Given(tenths) => {
-            let at = put_bytes(out, at, b"; minimum block ");
+            let at = put(out, at, b"; minimum block ");
             put_megawatts(out, at, tenths)
         }
-        Value::Missing => put_bytes(out, at, b"; flexible"),
+        Value::Missing => put(out, at, b"; flexible"),
     }
 }
 
 // Puts what a row clears and commits.
 fn put_cleared(out: &mut [u8], at: usize, block: Value, cleared: u32, committed: u32) -> usize {
-    let at = put_bytes(out, at, b"  cleared ");
+    let at = put(out, at, b"  cleared ");
     let at = put_megawatts(out, at, cleared);
-    let at = put_bytes(out, at, b", committed ");
+    let at = put(out, at, b", committed ");
     let at = put_megawatts(out, at, committed);
     put_block(out, at, block)
 }
@@ -99,20 +103,20 @@ fn put_cleared(out: &mut [u8], at: usize, block: Value, cleared: u32, committed:
 // Puts why a row has no make-whole.
 fn put_no_whole(out: &mut [u8], at: usize, cleared: u32, committed: u32) -> usize {
     if cleared == 0 {
-        return put_bytes(
+        return put(
             out,
             at,
             b"\n  make-whole 0: nothing of the row cleared, so it commits nothing\n",
         );
     }
     if cleared < committed {
-        return put_bytes(
+        return put(
             out,
             at,
             b"\n  make-whole 0: it commits more than cleared, and the price is zero\n",
         );
     }
-    put_bytes(out, at, b"\n  make-whole 0: it commits what cleared\n")
+    put(out, at, b"\n  make-whole 0: it commits what cleared\n")
 }
 
 // Puts a row's make-whole, of which there is some.
@@ -127,9 +131,9 @@ fn put_whole(
     if mills == 0 {
         return put_no_whole(out, at, cleared, committed);
     }
-    let at = put_bytes(out, at, b"\n  make-whole ");
+    let at = put(out, at, b"\n  make-whole ");
     let at = put_mills(out, at, mills);
-    put_bytes(
+    put(
         out,
         at,
         b" a day: the price on what it commits past what cleared\n",
