@@ -9,3 +9,5 @@ pub mod Demands
 pub mod Nothing
 pub mod Blocks
 pub mod Decided
+pub mod Exports
+pub mod Exported

@@ -2,3 +2,4 @@ pub mod Auction
 pub mod Sale
 pub mod Answer
 pub mod Payment
+pub mod Export

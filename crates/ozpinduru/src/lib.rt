@@ -1,6 +1,8 @@
 // The library that callers see: a book of bytes goes in; cleared megawatts, the price and the payments come out.
 pub mod call;
+pub mod export;
 pub mod payment;
+pub mod plain;
 pub mod sale;
 
 use market::price::ClearingPrice;

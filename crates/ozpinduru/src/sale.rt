@@ -27,7 +27,7 @@ pub struct Sale {
 }
 
 // The terms that parameters with every value given state.
-fn terms_of(p: Parameters) -> Terms
+pub fn terms_of(p: Parameters) -> Terms
     ensures { λ r. ⌜ r ≡ termsOf p ⌝ }
 {
     let cost = p.cost;
