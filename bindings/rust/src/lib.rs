@@ -81,14 +81,7 @@ pub fn clear(book: &[u8], cleared: &mut [u32], committed: &mut [u32]) -> Result<
     // SAFETY: the call reads the book and writes the buffers, each within the length that is handed over with it, and keeps
     // none of the pointers. That is part of what is proved of it.
     let answer = unsafe {
-        raw::ozp_clear(
-            book.as_ptr(),
-            book.len(),
-            cleared.as_mut_ptr(),
-            cleared.len(),
-            committed.as_mut_ptr(),
-            committed.len(),
-        )
+        raw::ozp_clear(book.as_ptr(), book.len(), cleared.as_mut_ptr(), cleared.len(), committed.as_mut_ptr(), committed.len())
     };
     let price = match answer.kind {
         raw::THERE => Some(answer.price),

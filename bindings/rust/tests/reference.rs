@@ -45,14 +45,8 @@ fn buffers_of_the_right_length_are_enough_and_short_ones_are_unchanged() {
 #[test]
 fn rows_have_their_values() {
     let book = book();
-    let flexible = |resource, price, quantity, stamp, seller| Offer {
-        resource,
-        seller,
-        price: Some(price),
-        quantity,
-        block: None,
-        stamp,
-    };
+    let flexible =
+        |resource, price, quantity, stamp, seller| Offer { resource, seller, price: Some(price), quantity, block: None, stamp };
     let sellers = [0, 1, 2].map(|at| row(&book, at).unwrap().seller);
     assert_eq!(row(&book, 0), Some(flexible(11, 10_000, 9_900, 1, sellers[0])));
     assert_eq!(row(&book, 1), Some(flexible(12, 37_500, 200, 2, sellers[1])));

@@ -32,8 +32,7 @@ pub fn call(call: &Call, seed: u64) -> Result<bool, String> {
 /// The answer, the contents of both buffers and past their ends, and each row's make-whole.
 fn cleared(call: &Call, book: &[u8], outcome: &Outcome) -> Result<(), String> {
     let (mut cleared, mut committed) = (held(call.cleared_len, 1), held(call.committed_len, 2));
-    let answer =
-        ozpinduru::clear(book, &mut cleared[..call.cleared_len], &mut committed[..call.committed_len]);
+    let answer = ozpinduru::clear(book, &mut cleared[..call.cleared_len], &mut committed[..call.committed_len]);
     let (mut cleared_due, mut committed_due) = (held(call.cleared_len, 1), held(call.committed_len, 2));
     match outcome {
         Outcome::Refused { number, place } => {
