@@ -28,7 +28,8 @@ use Rattle.layout.specs.Form.{offerCount, formFault, rowPart}
 use Rattle.layout.specs.Read.{bookOffer}
 use Rattle.layout.proofs.Handed.{row-part-refused, row-part-past, row-part-there, row-part-length}
 use Rattle.ozpinduru.specs.Auction.{termsOf}
-use Rattle.ozpinduru.specs.Export.{rowOf, noRow, rowBy, exportedRow, allGiven, pointsOf, pointsRefused, exportedCurve, priceOf, priceRefused, exportedPrice, exportedMakeWhole, noAmount}
+use Rattle.ozpinduru.specs.Export.{rowOf, noRow, exportedRow, exportedMakeWhole, noAmount}
+use Rattle.ozpinduru.specs.Plotted.{allGiven, pointsOf, pointsRefused, exportedCurve, priceOf, priceRefused, exportedPrice}
 use Rattle.ozpinduru.proofs.Clearables.{terms-in-range}
 
 -- ---- a row
@@ -60,14 +61,17 @@ module _ (b : List ℕ) (row : ℕ) where
       (λ number place e. gone (row-part-refused b row number place e) (shown-refused number place e))
 
   module _ (part : List ℕ) (own : part ≡ rowPart b row) where
+    -- an empty part: there is no row
     pub handed-nothing : length part ≡ 0 → noRow ≡ exportedRow b row
     handed-nothing z =
         by-row (λ e l. absurd (omega (arith, z, ap length own, row-part-length b row e l))) (λ empty shown. shown)
 
+    -- a part that isn't empty has a place's bytes
     pub handed-long : (length part ≡ 0 → ⊥) → 32 ≤ length part
     handed-long any =
         by-row (λ e l. omega (arith, ap length own, row-part-length b row e l)) (λ empty shown. absurd (any (ap length (own ∙ empty))))
 
+    -- and its offer is the row's
     pub handed-offer : (length part ≡ 0 → ⊥) → rowOf (offerOf part) ≡ exportedRow b row
     unfolding bookOffer
     handed-offer any =
@@ -76,6 +80,7 @@ module _ (b : List ℕ) (row : ℕ) where
 
 -- ---- parameters of which every one is given
 
+-- none of them is missing
 pub none-missing : (year cost offset outage requirement : ℕ) → missingFault (allGiven year cost offset outage requirement) ≡ Passed
 unfolding missingFault
 none-missing year cost offset outage requirement = refl
@@ -85,9 +90,11 @@ module _ (given p : Parameters) (same : p ≡ given) (v : Verdict) (found : v �
   fault : {w : Verdict} → v ≡ w → rangeFault given ≡ w
   fault told = sym (found ∙ ap rangeFault same) ∙ told
 
+  -- where they pass, the terms that the code read are in range
   pub given-in-range : missingFault given ≡ Passed → v ≡ Passed → (t : Terms) → t ≡ termsOf p → InRange t
   given-in-range all told t e = subst InRange (sym (e ∙ ap termsOf same)) (terms-in-range given (parameters-ranged given all (fault told)))
 
+  -- where they are refused, there are no points and no price
   pub curve-refused : (number place : ℕ) → v ≡ Refused number place → pointsRefused number place ≡ exportedCurve given
   unfolding exportedCurve
   curve-refused number place told = rw (fault told)
@@ -101,6 +108,7 @@ module _ (given p : Parameters) (same : p ≡ given) (v : Verdict) (found : v �
     curve-given : c ≡ curve2026 (termsOf given)
     curve-given = made ∙ ap curve2026 (read ∙ ap termsOf same)
 
+    -- its points, and its price at a quantity
     pub curve-made : pointsOf c ≡ exportedCurve given
     unfolding exportedCurve
     curve-made = rw (fault passed) (ap pointsOf curve-given)
@@ -112,6 +120,7 @@ module _ (given p : Parameters) (same : p ≡ given) (v : Verdict) (found : v �
 -- ---- make-whole
 
 module _ (kind price cleared committed : ℕ) where
+  -- with a price, with none, and with neither kind
   pub whole-priced : kind ≡ 1 → mills (some price) (committed - cleared) ≡ exportedMakeWhole kind price cleared committed
   unfolding exportedMakeWhole
   whole-priced e = rw (eq-eqb kind 1 e)

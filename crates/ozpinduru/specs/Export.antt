@@ -1,7 +1,7 @@
 -- What the exported functions return: plain structs of numbers, as functions of the library's own answers.
 --
 -- No kind is 0: 1 what was asked for is there, 2 there is none, 3 refused. A field that has no value holds all ones.
--- In order: the answer of a call; a row; the points of a curve; its price at a quantity; a row's make-whole.
+-- In order: the answer of a call; a row; a row's make-whole. A curve's stand in Plotted.
 -- Assumes nothing.
 use Prim.Native.Nat.{ℕ, _-_}
 use mathlib.Core.Path.{_≡_}
@@ -16,26 +16,16 @@ use Rattle.values.specs.declared.Value.{Value}
 use Rattle.values.specs.declared.Value.the-variants.{Given, Missing}
 use Rattle.values.specs.declared.Verdict.{Verdict}
 use Rattle.values.specs.declared.Verdict.the-variants.{Passed, Refused}
-use Rattle.values.specs.declared.head.Parameters.{Parameters}
 use Rattle.values.specs.declared.place.Offer.{Offer}
-use Rattle.limits.specs.Parameters.{rangeFault}
-use Rattle.curve.specs.Shape.{curve2026}
-use Rattle.curve.specs.Price.{curvePrice}
-use Rattle.curve.specs.declared.Curve.{Curve}
-use Rattle.curve.specs.declared.CurvePrice.{CurvePrice}
-use Rattle.curve.specs.declared.CurvePrice.the-variants.{Price as Curve·Price, NoPrice as Curve·NoPrice}
 use Rattle.market.specs.declared.price.ClearingPrice.{ClearingPrice}
 use Rattle.market.specs.declared.price.ClearingPrice.the-variants.{Price, NoPrice}
 use Rattle.layout.specs.Form.{offerCount, formFault}
 use Rattle.layout.specs.Read.{bookParameters, bookOffer}
-use Rattle.ozpinduru.specs.Auction.{termsOf}
 use Rattle.ozpinduru.specs.Answer.{Outcome, answerBy, callFault, clearingOf}
 use Rattle.ozpinduru.specs.declared.Answer.{Answer}
 use Rattle.ozpinduru.specs.declared.Answer.the-variants.{Cleared as Answer·Cleared, Refused as Answer·Refused}
 use Rattle.ozpinduru.specs.declared.export.OzpAnswer.{OzpAnswer}
 use Rattle.ozpinduru.specs.declared.export.OzpRow.{OzpRow}
-use Rattle.ozpinduru.specs.declared.export.OzpCurve.{OzpCurve}
-use Rattle.ozpinduru.specs.declared.export.OzpPrice.{OzpPrice}
 
 -- all ones, in 32 bits and in 64: no value
 abbrev pub noValue : ℕ
@@ -134,67 +124,6 @@ rowBy (Refused number place) row = noRow
 -- the row of a book, or that it isn't there
 unfoldable pub exportedRow : List ℕ → ℕ → OzpRow
 exportedRow b row = rowBy (formFault b) (cond (ltb row (offerCount b)) (rowOf (bookOffer b row)) noRow)
-
--- ---- a curve
-
--- parameters of which every one is given
-abbrev pub allGiven : ℕ → ℕ → ℕ → ℕ → ℕ → Parameters
-allGiven year cost offset outage requirement =
-    record { year = year; cost = Given cost; offset = Given offset; outage = Given outage; requirement = Given requirement }
-
--- the three points, the last of which stands at price 0
-abbrev pub pointsOf : Curve → OzpCurve
-pointsOf c =
-    record {
-      kind = 1;
-      p1 = c .p1 .0;
-      p2 = c .p2 .0;
-      p3 = 0;
-      q1 = c .q1;
-      q2 = c .q2;
-      q3 = c .q3;
-      number = noValue;
-      place = noValue;
-    }
-
-abbrev pub pointsRefused : ℕ → ℕ → OzpCurve
-pointsRefused number place =
-    record {
-      kind = 3;
-      p1 = noValue;
-      p2 = noValue;
-      p3 = noValue;
-      q1 = noValue;
-      q2 = noValue;
-      q3 = noValue;
-      number = number;
-      place = place;
-    }
-
-abbrev pub pointsBy : Verdict → OzpCurve → OzpCurve
-pointsBy Passed points = points
-pointsBy (Refused number place) points = pointsRefused number place
-
--- the points of the curve that parameters make, or the refusal of the parameters
-unfoldable pub exportedCurve : Parameters → OzpCurve
-exportedCurve p = pointsBy (rangeFault p) (pointsOf (curve2026 (termsOf p)))
-
--- ---- its price at a quantity
-
-abbrev pub priceOf : CurvePrice → OzpPrice
-priceOf (Curve·Price cents) = record { kind = 1; price = cents .0; number = noValue; place = noValue }
-priceOf Curve·NoPrice = record { kind = 2; price = noValue; number = noValue; place = noValue }
-
-abbrev pub priceRefused : ℕ → ℕ → OzpPrice
-priceRefused number place = record { kind = 3; price = noValue; number = number; place = place }
-
-abbrev pub priceBy : Verdict → OzpPrice → OzpPrice
-priceBy Passed price = price
-priceBy (Refused number place) price = priceRefused number place
-
--- the price at k on the curve that parameters make, that there is none past Q3, or the refusal of the parameters
-unfoldable pub exportedPrice : Parameters → ℕ → OzpPrice
-exportedPrice p k = priceBy (rangeFault p) (priceOf (curvePrice (curve2026 (termsOf p)) k))
 
 -- ---- a row's make-whole
 

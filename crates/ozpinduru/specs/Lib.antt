@@ -3,3 +3,4 @@ pub mod Sale
 pub mod Answer
 pub mod Payment
 pub mod Export
+pub mod Plotted

@@ -4,6 +4,7 @@
 // the book or the parameters are refused. A field that has no value holds all ones.
 use crate::call::clear;
 use crate::plain;
+use crate::plotted;
 use crate::sale::terms_of;
 use curve::points_2026;
 use curve::price_at;
@@ -17,7 +18,8 @@ use values::Verdict;
 use values::head::Parameters;
 use values::place::offer_in;
 ghost use mathlib.Core.Path.{_≡_};
-ghost use Rattle.ozpinduru.specs.Export.{Returned, exportedRow, allGiven, exportedCurve, exportedPrice, exportedMakeWhole};
+ghost use Rattle.ozpinduru.specs.Export.{Returned, exportedRow, exportedMakeWhole};
+ghost use Rattle.ozpinduru.specs.Plotted.{allGiven, exportedCurve, exportedPrice};
 
 // What a call answers. Quantities are tenths of a megawatt, the price is in cents per MW-day, amounts are mills.
 #[repr(C)]
@@ -115,9 +117,9 @@ pub extern "C" fn ozp_curve(
 {
     let p = all_given(year, cost, offset, outage, requirement);
     if let Verdict::Refused(number, place) = parameter_fault(p) {
-        return plain::curve_refused(number, place);
+        return plotted::curve_refused(number, place);
     }
-    plain::curve(points_2026(terms_of(p)))
+    plotted::curve(points_2026(terms_of(p)))
 }
 
 // The price at a quantity of the curve that parameters make.
@@ -134,9 +136,9 @@ pub extern "C" fn ozp_price_at(
 {
     let p = all_given(year, cost, offset, outage, requirement);
     if let Verdict::Refused(number, place) = parameter_fault(p) {
-        return plain::price_refused(number, place);
+        return plotted::price_refused(number, place);
     }
-    plain::price(price_at(points_2026(terms_of(p)), k))
+    plotted::price(price_at(points_2026(terms_of(p)), k))
 }
 
 // A row's make-whole in mills a day, from the kind and the price of an answer and the row's entries of the two buffers.

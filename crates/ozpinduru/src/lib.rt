@@ -3,6 +3,7 @@ pub mod call;
 pub mod export;
 pub mod payment;
 pub mod plain;
+pub mod plotted;
 pub mod sale;
 
 use market::price::ClearingPrice;

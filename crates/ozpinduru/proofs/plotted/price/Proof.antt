@@ -1,8 +1,8 @@
--- `plain::price` shows a price of the curve, case by case.
+-- `plotted::price` shows a price of the curve, case by case.
 -- Assumes nothing.
 use borrow.Author.Needs.{needs}
-use Rattle.ozpinduru.proofs.plain.price.Statement.{statement}
-use Rattle.ozpinduru.proofs.plain.price.Tie as tie
+use Rattle.ozpinduru.proofs.plotted.price.Statement.{statement}
+use Rattle.ozpinduru.proofs.plotted.price.Tie as tie
 
 enum-known-p : tie.Need-enum-known-p
 enum-known-p c = search needs

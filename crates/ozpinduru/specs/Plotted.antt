@@ -1,0 +1,78 @@
+-- What the exported functions return of a curve: plain structs of numbers, by the rules of Export.
+--
+-- In order: parameters; the three points; the price at a quantity.
+-- Assumes nothing.
+use Prim.Native.Nat.{ℕ}
+use Rattle.values.specs.declared.Value.the-variants.{Given}
+use Rattle.values.specs.declared.Verdict.{Verdict}
+use Rattle.values.specs.declared.Verdict.the-variants.{Passed, Refused}
+use Rattle.values.specs.declared.head.Parameters.{Parameters}
+use Rattle.limits.specs.Parameters.{rangeFault}
+use Rattle.curve.specs.Shape.{curve2026}
+use Rattle.curve.specs.Price.{curvePrice}
+use Rattle.curve.specs.declared.Curve.{Curve}
+use Rattle.curve.specs.declared.CurvePrice.{CurvePrice}
+use Rattle.curve.specs.declared.CurvePrice.the-variants.{Price, NoPrice}
+use Rattle.ozpinduru.specs.Auction.{termsOf}
+use Rattle.ozpinduru.specs.Export.{noValue}
+use Rattle.ozpinduru.specs.declared.export.OzpCurve.{OzpCurve}
+use Rattle.ozpinduru.specs.declared.export.OzpPrice.{OzpPrice}
+
+-- parameters of which every one is given
+abbrev pub allGiven : ℕ → ℕ → ℕ → ℕ → ℕ → Parameters
+allGiven year cost offset outage requirement =
+    record { year = year; cost = Given cost; offset = Given offset; outage = Given outage; requirement = Given requirement }
+
+-- the three points, the last of which stands at price 0
+abbrev pub pointsOf : Curve → OzpCurve
+pointsOf c =
+    record {
+      kind = 1;
+      p1 = c .p1 .0;
+      p2 = c .p2 .0;
+      p3 = 0;
+      q1 = c .q1;
+      q2 = c .q2;
+      q3 = c .q3;
+      number = noValue;
+      place = noValue;
+    }
+
+abbrev pub pointsRefused : ℕ → ℕ → OzpCurve
+pointsRefused number place =
+    record {
+      kind = 3;
+      p1 = noValue;
+      p2 = noValue;
+      p3 = noValue;
+      q1 = noValue;
+      q2 = noValue;
+      q3 = noValue;
+      number = number;
+      place = place;
+    }
+
+abbrev pub pointsBy : Verdict → OzpCurve → OzpCurve
+pointsBy Passed points = points
+pointsBy (Refused number place) points = pointsRefused number place
+
+-- the points of the curve that parameters make, or the refusal of the parameters
+unfoldable pub exportedCurve : Parameters → OzpCurve
+exportedCurve p = pointsBy (rangeFault p) (pointsOf (curve2026 (termsOf p)))
+
+-- ---- its price at a quantity
+
+abbrev pub priceOf : CurvePrice → OzpPrice
+priceOf (Price cents) = record { kind = 1; price = cents .0; number = noValue; place = noValue }
+priceOf NoPrice = record { kind = 2; price = noValue; number = noValue; place = noValue }
+
+abbrev pub priceRefused : ℕ → ℕ → OzpPrice
+priceRefused number place = record { kind = 3; price = noValue; number = number; place = place }
+
+abbrev pub priceBy : Verdict → OzpPrice → OzpPrice
+priceBy Passed price = price
+priceBy (Refused number place) price = priceRefused number place
+
+-- the price at k on the curve that parameters make, that there is none past Q3, or the refusal of the parameters
+unfoldable pub exportedPrice : Parameters → ℕ → OzpPrice
+exportedPrice p k = priceBy (rangeFault p) (priceOf (curvePrice (curve2026 (termsOf p)) k))
