@@ -25,7 +25,7 @@ pub fn call(call: &Call, seed: u64) -> Result<bool, String> {
     if let Some(read) = &read {
         curve(&read.parameters, rng)?;
     }
-    same("the book after all calls", book, &call.book[..])?;
+    same("whether the book is unchanged", book == call.book, true)?;
     Ok(matches!(outcome, Outcome::Cleared(_)))
 }
 
@@ -65,10 +65,10 @@ fn entries(buffer: &str, found: &[u32], due: &[u32]) -> Result<(), String> {
     }
 }
 
-/// The values of rows: of all in a small book, of some in a large one, and none past the last.
+/// The values of rows: of all in a small book and in one large book of sixteen, of some in the others; and none past the last.
 fn rows(book: &[u8], offers: &[Offer], rng: &mut Rng) -> Result<(), String> {
     let count = offers.len();
-    let all = count <= 20;
+    let all = count <= 60 || rng.index(16) == 0;
     let some = [0, count.saturating_sub(1), rng.index(count + 1), rng.index(count + 1), rng.index(count + 1)];
     let asked = if all { (0..count).collect() } else { some.to_vec() };
     let past = [count, count + 1 + rng.index(40), rng.draw() as usize | 1 << 40];
