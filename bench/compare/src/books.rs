@@ -3,6 +3,9 @@
 use oracle::book::Offer;
 use oracle::make::{book, offer, reference};
 
+/// The first of a day's time stamps, in milliseconds.
+const DAY: u64 = 1_780_000_000_000;
+
 /// A book, and the most that the library's time over plain Rust's may be on it.
 pub struct Case {
     pub name: &'static str,
@@ -16,6 +19,7 @@ pub fn cases() -> Vec<Case> {
         case("600 offers, distinct prices", written(&distinct()), 0.5),
         case("600 all tied", written(&tied()), 0.7),
         case("600 tied, equal quantities", written(&equal()), 0.7),
+        case("600 tied, equal, stamps rising", written(&rising()), 0.7),
         case("600, the last row repeats a resource", written(&last_repeats()), 1.0),
         case("600, resources equal in their low 16 bits", written(&low_halves_equal()), 1.0),
         case("600, resources that share one flag", written(&one_flag()), 1.0),
@@ -36,7 +40,7 @@ fn distinct() -> Vec<Offer> {
     (0..600u32)
         .map(|at| {
             let price = 60 * (at * 7_919 % 601);
-            let stamp = 1_780_000_000_000 + u64::from(at * 104_729 % 86_400_000);
+            let stamp = DAY + u64::from(at) * 55_555_577 % 86_400_000;
             Offer { block: Some(9), ..offer((at + 1).wrapping_mul(2_654_435_761), 10 + at % 20, price, stamp) }
         })
         .collect()
@@ -47,9 +51,14 @@ fn tied() -> Vec<Offer> {
     distinct().into_iter().map(|offer| Offer { price: Some(37_500), ..offer }).collect()
 }
 
-/// All tied with equal quantities: remainders are equal, and the spare tenths go by the stamp.
+/// All tied with equal quantities: remainders are equal too, and the spare tenths go by the stamp.
 fn equal() -> Vec<Offer> {
     tied().into_iter().map(|offer| Offer { quantity: 20, ..offer }).collect()
+}
+
+/// The same with the stamps in the order of the rows, which a sort finds in order already.
+fn rising() -> Vec<Offer> {
+    (DAY..).zip(equal()).map(|(stamp, offer)| Offer { stamp, ..offer }).collect()
 }
 
 fn last_repeats() -> Vec<Offer> {
