@@ -2,6 +2,7 @@
 
 use crate::book::Offer;
 use crate::curve::Curve;
+use crate::manner::Manner;
 use std::cmp::Reverse;
 
 /// How much clears, at what price, and who gets it.
@@ -40,18 +41,18 @@ impl Auction {
     }
 
     /// Fills in what each row clears.
-    pub fn divide(&self, offers: &[Offer], cleared: &mut [u32]) {
+    pub fn divide<M: Manner>(&self, offers: &[Offer], cleared: &mut [u32]) {
         cleared.fill(0);
         for &key in &self.stack[..self.full] {
             cleared[row(key)] = offers[row(key)].quantity;
         }
         if self.shared > 0 {
-            self.share(offers, cleared);
+            self.share::<M>(offers, cleared);
         }
     }
 
     /// Proportional parts rounded down, and the spare tenths to the largest remainders, earliest stamps, lowest resources.
-    fn share(&self, offers: &[Offer], cleared: &mut [u32]) {
+    fn share<M: Manner>(&self, offers: &[Offer], cleared: &mut [u32]) {
         let tied = &self.stack[self.full..self.tied];
         let mut turns = Vec::with_capacity(tied.len());
         let mut spare = self.shared;
@@ -64,7 +65,7 @@ impl Auction {
             turns.push((Reverse(product - whole * self.offered), offer.stamp, offer.resource, row(key)));
         }
         if spare > 0 {
-            turns.select_nth_unstable(spare as usize - 1);
+            M::bring_first(&mut turns, spare as usize);
             for &(.., row) in &turns[..spare as usize] {
                 cleared[row] += 1;
             }

@@ -1,9 +1,9 @@
 //! Reading: length, checks, layout, and the limits of the values.
 
 use crate::curve::Curve;
+use crate::manner::Manner;
 use crate::Fault;
 use std::collections::HashSet;
-use std::hash::{BuildHasherDefault, Hasher};
 
 const BLOCK: usize = 512;
 const PLACE: usize = 32;
@@ -61,8 +61,8 @@ impl Book {
     }
 
     /// Refusals 6, 7 and 8.
-    pub fn check_offers(&self) -> Result<(), Fault> {
-        let mut seen = HashSet::with_capacity_and_hasher(self.offers.len(), BuildHasherDefault::<NumberHasher>::default());
+    pub fn check_offers<M: Manner>(&self) -> Result<(), Fault> {
+        let mut seen = HashSet::with_capacity_and_hasher(self.offers.len(), M::Hashing::default());
         for (row, offer) in self.offers.iter().enumerate() {
             if offer.marks & 1 == 0 {
                 return Err((6, row as u32));
@@ -183,23 +183,4 @@ fn u16_at(bytes: &[u8], at: usize) -> u16 {
 
 fn u32_at(bytes: &[u8], at: usize) -> u32 {
     u32::from_le_bytes(bytes[at..at + 4].try_into().unwrap())
-}
-
-/// A quick hash of 32-bit numbers: one multiplication, its high bits folded onto its low ones.
-#[derive(Default)]
-struct NumberHasher(u64);
-
-impl Hasher for NumberHasher {
-    fn write(&mut self, _: &[u8]) {
-        unreachable!("only 32-bit numbers are hashed")
-    }
-
-    fn write_u32(&mut self, number: u32) {
-        let product = u64::from(number).wrapping_mul(0x9E37_79B9_7F4A_7C15);
-        self.0 = product ^ product >> 32;
-    }
-
-    fn finish(&self) -> u64 {
-        self.0
-    }
 }

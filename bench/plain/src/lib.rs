@@ -3,13 +3,17 @@
 //! One pass over the bytes for the checks, one for the layout and the values, one over the offers for their limits and repeats.
 //! Then a sort by price, a walk over the sums that finds the total and the price at once, and a division of the one level that
 //! clears in part. Nothing is written into the buffers before the whole book is known to be good.
+//!
+//! `clear` finds repeats with the standard HashSet and orders ties with a sort; `clear_tuned` has a quicker hash and a selection.
 
 mod auction;
 mod book;
 mod curve;
+mod manner;
 
 use auction::Auction;
 use book::{Book, Offer};
+use manner::{Manner, Tuned, Usual};
 
 /// A refusal's number and place.
 type Fault = (u32, u32);
@@ -32,22 +36,31 @@ pub struct Clearing {
 
 /// Clears a book into two buffers by row. A refusal leaves both as they were; entries past the last row are not touched.
 pub fn clear(bytes: &[u8], cleared: &mut [u32], committed: &mut [u32]) -> Outcome {
-    match try_clear(bytes, cleared, committed) {
+    outcome(try_clear::<Usual>(bytes, cleared, committed))
+}
+
+/// The same, with a quicker hash and a selection in the place of a sort.
+pub fn clear_tuned(bytes: &[u8], cleared: &mut [u32], committed: &mut [u32]) -> Outcome {
+    outcome(try_clear::<Tuned>(bytes, cleared, committed))
+}
+
+fn outcome(result: Result<Clearing, Fault>) -> Outcome {
+    match result {
         Ok(clearing) => Outcome::Cleared(clearing),
         Err((number, place)) => Outcome::Refused { number, place },
     }
 }
 
-fn try_clear(bytes: &[u8], cleared: &mut [u32], committed: &mut [u32]) -> Result<Clearing, Fault> {
+fn try_clear<M: Manner>(bytes: &[u8], cleared: &mut [u32], committed: &mut [u32]) -> Result<Clearing, Fault> {
     let book = Book::read(bytes)?;
     let curve = book.parameters.curve()?;
-    book.check_offers()?;
+    book.check_offers::<M>()?;
     let count = book.offers.len();
     let cleared = cleared.get_mut(..count).ok_or((9, 1))?;
     let committed = committed.get_mut(..count).ok_or((9, 2))?;
 
     let auction = Auction::new(&book.offers, &curve);
-    auction.divide(&book.offers, cleared);
+    auction.divide::<M>(&book.offers, cleared);
     let extra = commit(&book.offers, cleared, committed);
     let price = u64::from(auction.price.unwrap_or(0));
     let make_whole = price * extra;

@@ -1,7 +1,9 @@
 //! The same answers as the oracle's, and the same buffers, on the calls of 20,000 seeds, or of as many as CALLS says.
 
 use oracle::random::{call, Call};
-use plain::{clear, Clearing, Outcome};
+use plain::{clear, clear_tuned, Clearing, Outcome};
+
+type Clear = fn(&[u8], &mut [u32], &mut [u32]) -> Outcome;
 
 const UNTOUCHED: u32 = 0xDEAD_BEEF;
 
@@ -28,9 +30,12 @@ fn random_calls() {
     let calls = std::env::var("CALLS").map_or(20_000, |calls| calls.parse().unwrap());
     for seed in 0..calls {
         let call = call(seed);
-        let mut cleared = vec![UNTOUCHED; call.cleared_len];
-        let mut committed = vec![UNTOUCHED; call.committed_len];
-        let outcome = clear(&call.book, &mut cleared, &mut committed);
-        assert!((outcome, cleared, committed) == expected(&call), "seed {seed}: {outcome:?}, {:?}", expected(&call).0);
+        let due = expected(&call);
+        for (name, clear) in [("plain", clear as Clear), ("tuned", clear_tuned)] {
+            let mut cleared = vec![UNTOUCHED; call.cleared_len];
+            let mut committed = vec![UNTOUCHED; call.committed_len];
+            let outcome = clear(&call.book, &mut cleared, &mut committed);
+            assert!((outcome, cleared, committed) == due, "{name}, seed {seed}: {outcome:?}, {:?}", due.0);
+        }
     }
 }

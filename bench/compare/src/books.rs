@@ -1,0 +1,88 @@
+//! The books that are measured.
+
+use oracle::book::Offer;
+use oracle::make::{book, offer, reference};
+
+/// The first of a day's time stamps, in milliseconds.
+const DAY: u64 = 1_780_000_000_000;
+
+/// A book, and the most that the library's time over plain Rust's may be on it.
+pub struct Case {
+    pub name: &'static str,
+    pub book: Vec<u8>,
+    pub target: f64,
+}
+
+pub fn cases() -> Vec<Case> {
+    let case = |name, book, target| Case { name, book, target };
+    vec![
+        case("600 offers, distinct prices", written(&distinct()), 0.5),
+        case("600 all tied", written(&tied()), 0.7),
+        case("600 tied, equal quantities", written(&equal()), 0.7),
+        case("600 tied, equal, stamps rising", written(&rising()), 0.7),
+        case("600, the last row repeats a resource", written(&last_repeats()), 1.0),
+        case("600, resources equal in their low 16 bits", written(&low_halves_equal()), 1.0),
+        case("600, resources that share one flag", written(&one_flag()), 1.0),
+        case("15 offers", written(&distinct()[..15]), 1.0),
+        case("no offers", written(&[]), 1.0),
+        case("refused by 1", written(&distinct())[1..].to_vec(), 1.0),
+        case("refused by 2 at the last block", last_check_wrong(), 1.0),
+    ]
+}
+
+fn written(offers: &[Offer]) -> Vec<u8> {
+    book(&reference(), offers)
+}
+
+/// Six hundred offers in no order of price, stamp or resource, each with a block. With the reference parameters their sum is
+/// 11,700, so that most clear whole, one in part and some not at all.
+fn distinct() -> Vec<Offer> {
+    (0..600u32)
+        .map(|at| {
+            let price = 60 * (at * 7_919 % 601);
+            let stamp = DAY + u64::from(at) * 55_555_577 % 86_400_000;
+            Offer { block: Some(9), ..offer((at + 1).wrapping_mul(2_654_435_761), 10 + at % 20, price, stamp) }
+        })
+        .collect()
+}
+
+/// The same offers at one price, at which not all clear: remainders differ, and the spare tenths go by them.
+fn tied() -> Vec<Offer> {
+    distinct().into_iter().map(|offer| Offer { price: Some(37_500), ..offer }).collect()
+}
+
+/// All tied with equal quantities: remainders are equal too, and the spare tenths go by the stamp.
+fn equal() -> Vec<Offer> {
+    tied().into_iter().map(|offer| Offer { quantity: 20, ..offer }).collect()
+}
+
+/// The same with the stamps in the order of the rows, which a sort finds in order already.
+fn rising() -> Vec<Offer> {
+    (DAY..).zip(equal()).map(|(stamp, offer)| Offer { stamp, ..offer }).collect()
+}
+
+fn last_repeats() -> Vec<Offer> {
+    let mut offers = distinct();
+    offers[599].resource = offers[300].resource;
+    offers
+}
+
+fn numbered(resource: impl Fn(u32) -> u32) -> Vec<Offer> {
+    (0..).zip(distinct()).map(|(at, offer)| Offer { resource: resource(at), ..offer }).collect()
+}
+
+fn low_halves_equal() -> Vec<Offer> {
+    numbered(|at| (at + 1) * 65_536 + 4_321)
+}
+
+/// The worst that resource numbers can do to the library's table of flags: each number's two halves add up to the same.
+fn one_flag() -> Vec<Offer> {
+    numbered(|at| (at + 1) * 65_536 + (4_321 - at))
+}
+
+fn last_check_wrong() -> Vec<u8> {
+    let mut book = written(&distinct());
+    let last = book.len() - 1;
+    book[last] ^= 1;
+    book
+}

@@ -1,0 +1,120 @@
+//! One call through the C interface, beside the oracle's.
+
+use oracle::book::{self, Offer, Parameters};
+use oracle::random::{Call, Rng};
+use oracle::{limits, Outcome};
+use ozpinduru::{Clearing, Refusal};
+use std::fmt::Debug;
+
+/// Entries that a buffer has past the length that is lent: nothing may be written there.
+const PAST: usize = 16;
+
+/// Compares all that a call gives; says whether its book clears.
+pub fn call(call: &Call, seed: u64) -> Result<bool, String> {
+    let outcome = oracle::clear(&call.book, call.cleared_len, call.committed_len);
+    let rng = &mut Rng::new(!seed);
+    // The book starts at any address, and no more than its own bytes are lent.
+    let shift = rng.index(64);
+    let mut room = vec![0xA5; shift + call.book.len()];
+    room[shift..].copy_from_slice(&call.book);
+    let book = &room[shift..];
+
+    cleared(call, book, &outcome)?;
+    let read = book::read(book).ok();
+    rows(book, read.as_ref().map_or(&[], |book| &book.offers), rng)?;
+    if let Some(read) = &read {
+        curve(&read.parameters, rng)?;
+    }
+    same("whether the book is unchanged", book == call.book, true)?;
+    Ok(matches!(outcome, Outcome::Cleared(_)))
+}
+
+/// The answer, the contents of both buffers and past their ends, and each row's make-whole.
+fn cleared(call: &Call, book: &[u8], outcome: &Outcome) -> Result<(), String> {
+    let (mut cleared, mut committed) = (held(call.cleared_len, 1), held(call.committed_len, 2));
+    let answer = ozpinduru::clear(book, &mut cleared[..call.cleared_len], &mut committed[..call.committed_len]);
+    let (mut cleared_due, mut committed_due) = (held(call.cleared_len, 1), held(call.committed_len, 2));
+    match outcome {
+        Outcome::Refused { number, place } => {
+            same("the answer", answer.map_err(numbered), Err((*number, *place)))?;
+        }
+        Outcome::Cleared(due) => {
+            let (make_whole, daily, year) = (due.make_whole, due.daily, due.year);
+            let clearing = Clearing { total: due.total, price: due.price, make_whole, daily, year };
+            same("the answer", answer.map_err(numbered), Ok(clearing))?;
+            for (at, row) in due.rows.iter().enumerate() {
+                (cleared_due[at], committed_due[at]) = (row.cleared, row.committed);
+                let make_whole = clearing.make_whole(row.cleared, row.committed);
+                same("a row's make-whole", (at, make_whole), (at, row.make_whole))?;
+            }
+        }
+    }
+    entries("cleared", &cleared, &cleared_due)?;
+    entries("committed", &committed, &committed_due)
+}
+
+/// A buffer's contents before the call: at each entry a number of its own.
+fn held(length: usize, buffer: u32) -> Vec<u32> {
+    (0..(length + PAST) as u32).map(|at| 0xDEAD_0000 * buffer + at).collect()
+}
+
+fn entries(buffer: &str, found: &[u32], due: &[u32]) -> Result<(), String> {
+    match (0..due.len()).find(|&at| found[at] != due[at]) {
+        Some(at) => same(&format!("entry {at} of the {buffer} buffer"), found[at], due[at]),
+        None => Ok(()),
+    }
+}
+
+/// The values of rows: of all in a small book and in one large book of sixteen, of some in the others; and none past the last.
+fn rows(book: &[u8], offers: &[Offer], rng: &mut Rng) -> Result<(), String> {
+    let count = offers.len();
+    let all = count <= 60 || rng.index(16) == 0;
+    let some = [0, count.saturating_sub(1), rng.index(count + 1), rng.index(count + 1), rng.index(count + 1)];
+    let asked = if all { (0..count).collect() } else { some.to_vec() };
+    let past = [count, count + 1 + rng.index(40), rng.draw() as usize | 1 << 40];
+    for at in asked.into_iter().chain(past) {
+        same(&format!("row {at}"), ozpinduru::row(book, at), offers.get(at).map(values))?;
+    }
+    Ok(())
+}
+
+fn values(offer: &Offer) -> ozpinduru::Offer {
+    let &Offer { resource, seller, price, quantity, block, stamp } = offer;
+    ozpinduru::Offer { resource, seller, price, quantity, block, stamp }
+}
+
+/// The curve of the parameters and its prices, or that they are refused. Where one is missing there is none to ask for.
+fn curve(p: &Parameters, rng: &mut Rng) -> Result<(), String> {
+    let (Some(cost), Some(offset), Some(outage), Some(requirement)) = (p.cost, p.offset, p.outage, p.requirement) else {
+        return Ok(());
+    };
+    let asked = ozpinduru::Parameters { year: p.year, cost, offset, outage, requirement };
+    let found = ozpinduru::curve(&asked).map_err(numbered);
+    if let Some(fault) = limits::out_of_range(p) {
+        same("the curve", found, Err(fault))?;
+        return same("a price", ozpinduru::price_at(&asked, rng.draw() as u32).map_err(numbered), Err(fault));
+    }
+    let points = oracle::curve(cost, offset, outage, requirement);
+    let due = points.map(|point| ozpinduru::Point { quantity: point.quantity, price: point.price });
+    same("the curve", found, Ok(ozpinduru::Curve { points: due }))?;
+    let [q1, q2, q3] = points.map(|point| point.quantity);
+    let (first, second, any) = (rng.between32(q1, q2), rng.between32(q2, q3), rng.draw() as u32);
+    for k in [0, q1, q1 + 1, first, q2, q2 + 1, second, q3, q3 + 1, any] {
+        let price = ozpinduru::price_at(&asked, k).map_err(numbered);
+        same(&format!("the price at {k}"), price, Ok(oracle::price_at(&points, k)))?;
+    }
+    Ok(())
+}
+
+/// A refusal as the table numbers it.
+fn numbered(refusal: Refusal) -> (u32, u32) {
+    (refusal.number(), refusal.place())
+}
+
+fn same<T: PartialEq + Debug>(what: &str, found: T, due: T) -> Result<(), String> {
+    if found == due {
+        Ok(())
+    } else {
+        Err(format!("{what} is {found:?}, and the oracle says {due:?}"))
+    }
+}
