@@ -24,7 +24,7 @@ use Rattle.ozpinduru.proofs.Calls.{fault-book, fault-none}
 use Rattle.ozpinduru.proofs.Payments.{quoted-asPrice}
 use Rattle.ozpinduru.proofs.Outcomes.{cleared-accepted, cleared-clearing, cleared-row, committed-row, refused-first}
 use Rattle.report.specs.Lines.{clearedWord, dailyWord, yearWord, lineText, priceText, refusalText, rowText}
-use Rattle.report.specs.Report.{soldLine, soldText, clearingText, reportBy, reportText}
+use Rattle.report.specs.Report.{soldText, clearingText, reportBy, reportText}
 use Rattle.report.proofs.Fitting.{rowsText-ext}
 
 -- the first fault of a call with buffers of 600 entries is the book's

@@ -2,7 +2,6 @@
 -- Assumes nothing.
 use Rattle.report.proofs.Answers.{answered-accepted, sold-reported, refusal-reported}
 use Rattle.report.proofs.Fitting.{fitted-as}
-use native.Mathlib.Omega.{arith}
 use borrow.Author.Needs.{needs}
 use Rattle.report.proofs.put_report.Statement.{statement}
 use Rattle.report.proofs.put_report.Tie as tie

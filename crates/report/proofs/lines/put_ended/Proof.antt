@@ -3,8 +3,8 @@
 use Rattle.report.proofs.Fitting.{fitted-ended, fitted-place, ended-long}
 use native.Mathlib.Omega.{arith}
 use borrow.Author.Needs.{needs}
-use Rattle.report.proofs.put_ended.Statement.{statement}
-use Rattle.report.proofs.put_ended.Tie as tie
+use Rattle.report.proofs.lines.put_ended.Statement.{statement}
+use Rattle.report.proofs.lines.put_ended.Tie as tie
 
 put-number-requires : tie.Need-put-number-requires
 put-number-requires c κs = search needs

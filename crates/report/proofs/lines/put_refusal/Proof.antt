@@ -2,10 +2,9 @@
 -- Assumes nothing.
 use Rattle.report.specs.Lines.{refusalText}
 use Rattle.report.proofs.Fitting.{fitted-append}
-use native.Mathlib.Omega.{arith}
 use borrow.Author.Needs.{needs}
-use Rattle.report.proofs.put_refusal.Statement.{statement}
-use Rattle.report.proofs.put_refusal.Tie as tie
+use Rattle.report.proofs.lines.put_refusal.Statement.{statement}
+use Rattle.report.proofs.lines.put_refusal.Tie as tie
 
 slice-aggregate-put-word : tie.Need-slice-aggregate-put-word
 slice-aggregate-put-word c = search needs

@@ -4,8 +4,8 @@ use Rattle.report.specs.Lines.{wordText, Fitted}
 use Rattle.report.proofs.Fitting.{fitted, fitted-append, fitted-place}
 use native.Mathlib.Omega.{arith}
 use borrow.Author.Needs.{needs}
-use Rattle.report.proofs.put_word.Statement.{statement}
-use Rattle.report.proofs.put_word.Tie as tie
+use Rattle.report.proofs.lines.put_word.Statement.{statement}
+use Rattle.report.proofs.lines.put_word.Tie as tie
 
 put-bytes-requires : tie.Need-put-bytes-requires
 put-bytes-requires c κs = search needs

@@ -3,8 +3,8 @@
 use Rattle.report.proofs.Fitting.{fitted, fitted-place, price-told, no-price-told}
 use native.Mathlib.Omega.{arith}
 use borrow.Author.Needs.{needs}
-use Rattle.report.proofs.put_price.Statement.{statement}
-use Rattle.report.proofs.put_price.Tie as tie
+use Rattle.report.proofs.lines.put_price.Statement.{statement}
+use Rattle.report.proofs.lines.put_price.Tie as tie
 
 enum-known-price : tie.Need-enum-known-price
 enum-known-price c = search needs

@@ -4,8 +4,8 @@ use Rattle.report.specs.Lines.{rowText}
 use Rattle.report.proofs.Fitting.{fitted-append}
 use native.Mathlib.Omega.{arith}
 use borrow.Author.Needs.{needs}
-use Rattle.report.proofs.put_row.Statement.{statement}
-use Rattle.report.proofs.put_row.Tie as tie
+use Rattle.report.proofs.lines.put_row.Statement.{statement}
+use Rattle.report.proofs.lines.put_row.Tie as tie
 
 put-short-requires : tie.Need-put-short-requires
 put-short-requires c κs = search needs

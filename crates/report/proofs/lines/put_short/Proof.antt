@@ -3,8 +3,8 @@
 use Rattle.report.proofs.Fitting.{fitted-place, ended-short}
 use native.Mathlib.Omega.{arith}
 use borrow.Author.Needs.{needs}
-use Rattle.report.proofs.put_short.Statement.{statement}
-use Rattle.report.proofs.put_short.Tie as tie
+use Rattle.report.proofs.lines.put_short.Statement.{statement}
+use Rattle.report.proofs.lines.put_short.Tie as tie
 
 put-ended-requires : tie.Need-put-ended-requires
 put-ended-requires c κs = search needs
