@@ -32,10 +32,8 @@ fn second_sum(s: &[u8]) -> u16
     ensures { λ r. ⌜ r ≡ secondSum (now (s .entry)) % 65536 ⌝ }
 {
     let mut sum: u16 = 0;
-    let mut position: u32 = 0;
     for i in 0..508 {
-        position += 1;
-        sum = added(sum, wide(s[i]) * position);
+        sum = added(sum, wide(s[i]) * (i as u32 + 1));
     }
     sum
 }
