@@ -29,18 +29,11 @@ fn put_curve(out: &mut [u8], at: usize, c: Curve) -> usize {
     let at = put(
         out,
         at,
-        b"The curve, in dollars per MW-day (cents) and MW (tenths)",
+        b"The curve, in dollars per MW-day (cents) and MW (tenths); past Q3 nothing is bought",
     );
     let at = put_point(out, at, b"\n  P1 ", p1.0, b" up to Q1 ", c.q1);
     let at = put_point(out, at, b"\n  P2 ", p2.0, b" at Q2 ", c.q2);
-    put_point(
-        out,
-        at,
-        b"\n  P3 ",
-        0,
-        b" at Q3, past which nothing is bought, ",
-        c.q3,
-    )
+    put_point(out, at, b"\n  P3 ", 0, b" at Q3 ", c.q3)
 }
 
 // Puts the curve price at a tenth, and what is offered at it or below.
