@@ -1,18 +1,19 @@
 #!/usr/bin/env python3
 """Makes the books that the program `explain` is run on.
 
-    tests/explain/make.py            writes crates/explain/stdin and tests/explain/*.book
+    tests/explain/make.py            writes crates/explain/stdin and tests/explain/*.book, with what is expected of each
     tests/explain/make.py --check    says whether they are what it would write
 
-What is expected of each stands beside it: crates/explain/stdout, and NAME.txt here.
+What is expected comes from page.py: crates/explain/stdout, and NAME.txt beside each book.
 """
 import pathlib
 import sys
 
 HERE = pathlib.Path(__file__).resolve().parent
-sys.path.insert(0, str(HERE.parent))
+sys.path[:0] = [str(HERE), str(HERE.parent)]
 sys.dont_write_bytecode = True
 from make_books import book, changed, damaged, offer  # noqa: E402
+from page import page  # noqa: E402
 
 # Two units at zero, and two that tie at the curve price: a spare tenth, and a minimum block of which a part cleared.
 FOUR = [
@@ -48,6 +49,7 @@ def books():
 
 def main():
     made = dict(books())
+    made |= {path.with_suffix(".txt") if path.suffix else path.with_name("stdout"): page(data).encode() for path, data in made.items()}
     if sys.argv[1:] == ["--check"]:
         wrong = [path.name for path, data in made.items() if not path.is_file() or path.read_bytes() != data]
         for name in wrong:

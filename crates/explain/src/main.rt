@@ -119,19 +119,16 @@ fn put_zero_total(out: &mut [u8], at: usize, price: ClearingPrice, mills: u64) -
 // Puts the daily total.
 fn put_daily(out: &mut [u8], at: usize, c: Clearing) -> usize {
     let price = c.price;
-    let at = put(out, at, b"\nThe daily total is ");
-    let at = put_mills(out, at, c.daily);
+    let at = put_mills(out, at, b"\nThe daily total is ", c.daily);
     let at = put_zero_total(out, at, price, c.daily);
-    let at = put(out, at, b"\n  of which make-whole ");
-    put_mills(out, at, c.make_whole)
+    put_mills(out, at, b"\n  of which make-whole ", c.make_whole)
 }
 
 // Puts both totals.
 fn put_totals(out: &mut [u8], at: usize, c: Clearing, days: u64) -> usize {
     let at = put_daily(out, at, c);
     let at = put_counted(out, at, b"\nThe year total, ", days);
-    let at = put(out, at, b" times as much, is ");
-    let at = put_mills(out, at, c.year);
+    let at = put_mills(out, at, b" times as much, is ", c.year);
     put(out, at, b"\n")
 }
 

@@ -17,8 +17,7 @@ fn put_offered(out: &mut [u8], at: usize, price: Value) -> usize {
     if cents == 0 {
         return put(out, at, b" offered at zero");
     }
-    let at = put(out, at, b" offered at ");
-    put_price(out, at, cents)
+    put_price(out, at, b" offered at ", cents)
 }
 
 // Puts a row's offer.
@@ -26,77 +25,64 @@ fn put_offer(out: &mut [u8], at: usize, row: usize, o: Offer) -> usize {
     let price = o.price;
     let at = put_counted(out, at, b"row ", row as u64);
     let at = put_counted(out, at, b", resource ", o.resource as u64);
-    let at = put(out, at, b": ");
-    let at = put_megawatts(out, at, o.quantity);
+    let at = put_megawatts(out, at, b": ", o.quantity);
     let at = put_offered(out, at, price);
     put_counted(out, at, b", stamp ", o.stamp)
 }
 
-// Puts what the row's level receives of what is offered at it.
-fn put_level(out: &mut [u8], at: usize, s: Share) -> usize {
-    let at = put(out, at, b"\n  its level receives ");
-    let at = put_megawatts(out, at, s.amount);
-    let at = put(out, at, b" of ");
-    put_megawatts(out, at, s.sum)
-}
-
-// Puts the exact part of the level: the quantity times the level's amount, over its sum.
-fn put_exact(out: &mut [u8], at: usize, quantity: u32, s: Share) -> usize {
+// Puts the exact part of the level, the quantity times the level's amount over its sum, and that rounded down.
+fn put_down(out: &mut [u8], at: usize, quantity: u32, s: Share) -> usize {
     let at = put_counted(out, at, b"\n  its share is ", quantity as u64);
     let at = put_counted(out, at, b" x ", s.amount as u64);
-    put_counted(out, at, b" / ", s.sum as u64)
+    let at = put_counted(out, at, b" / ", s.sum as u64);
+    put_counted(out, at, b" = ", s.down)
 }
 
-// Puts the exact part, rounded down, with its remainder.
-fn put_part(out: &mut [u8], at: usize, quantity: u32, s: Share) -> usize {
-    let at = put_exact(out, at, quantity, s);
-    let at = put_counted(out, at, b" = ", s.down);
+// Puts the remainder, and whether the row got a spare tenth.
+fn put_remainder(out: &mut [u8], at: usize, s: Share, cleared: u32) -> usize {
     let at = put_counted(out, at, b", remainder ", s.remainder);
-    put_counted(out, at, b" / ", s.sum as u64)
-}
-
-// Puts whether the row got a spare tenth.
-fn put_spare(out: &mut [u8], at: usize, s: Share, cleared: u32) -> usize {
+    let at = put_counted(out, at, b" / ", s.sum as u64);
     if s.down < cleared as u64 {
-        return put(out, at, b"; one spare tenth\n");
+        return put(out, at, b"; one spare tenth");
     }
-    put(out, at, b"; no spare tenth\n")
+    put(out, at, b"; no spare tenth")
 }
 
-// Puts a row's share of its level: of a whole or an empty level there is no fraction to work.
-fn put_share(out: &mut [u8], at: usize, quantity: u32, s: Share, cleared: u32) -> usize {
-    let at = put_level(out, at, s);
+// Puts a row's share of what its level receives: of a whole or an empty level there is no fraction to work.
+fn put_part(out: &mut [u8], at: usize, quantity: u32, s: Share, cleared: u32) -> usize {
     if s.amount == 0 {
         return put(
             out,
             at,
-            b": X leaves nothing for it, so the row clears nothing\n",
+            b": X leaves nothing for it, so the row clears nothing",
         );
     }
     if s.amount == s.sum {
-        return put(out, at, b": all of it, so the row clears whole\n");
+        return put(out, at, b": all of it, so the row clears whole");
     }
-    let at = put_part(out, at, quantity, s);
-    put_spare(out, at, s, cleared)
+    let at = put_down(out, at, quantity, s);
+    put_remainder(out, at, s, cleared)
+}
+
+// Puts what the row's level receives of what is offered at it, and the row's share.
+fn put_share(out: &mut [u8], at: usize, quantity: u32, s: Share, cleared: u32) -> usize {
+    let at = put_megawatts(out, at, b"\n  its level receives ", s.amount);
+    let at = put_megawatts(out, at, b" of ", s.sum);
+    put_part(out, at, quantity, s, cleared)
 }
 
 // Puts the minimum block, or that there is none.
 fn put_block(out: &mut [u8], at: usize, block: Value) -> usize {
     match block {
-        Value::Given(tenths) => {
-            let at = put(out, at, b"; minimum block ");
-            put_megawatts(out, at, tenths)
-        }
+        Value::Given(tenths) => put_megawatts(out, at, b"; minimum block ", tenths),
         Value::Missing => put(out, at, b"; flexible"),
     }
 }
 
 // Puts what a row clears and commits.
 fn put_cleared(out: &mut [u8], at: usize, block: Value, cleared: u32, committed: u32) -> usize {
-    let at = put(out, at, b"  cleared ");
-    let at = put_megawatts(out, at, cleared);
-    let at = put(out, at, b", committed ");
-    let at = put_megawatts(out, at, committed);
+    let at = put_megawatts(out, at, b"\n  cleared ", cleared);
+    let at = put_megawatts(out, at, b", committed ", committed);
     put_block(out, at, block)
 }
 
@@ -119,7 +105,7 @@ fn put_no_whole(out: &mut [u8], at: usize, cleared: u32, committed: u32) -> usiz
     put(out, at, b"\n  make-whole 0: it commits what cleared\n")
 }
 
-// Puts a row's make-whole, of which there is some.
+// Puts a row's make-whole, or why there is none.
 fn put_whole(
     out: &mut [u8],
     at: usize,
@@ -131,8 +117,7 @@ fn put_whole(
     if mills == 0 {
         return put_no_whole(out, at, cleared, committed);
     }
-    let at = put(out, at, b"\n  make-whole ");
-    let at = put_mills(out, at, mills);
+    let at = put_mills(out, at, b"\n  make-whole ", mills);
     put(
         out,
         at,

@@ -1,6 +1,5 @@
 // What a book states: its parameters, each given or missing.
 use crate::words::put;
-use crate::words::put_count;
 use crate::words::put_counted;
 use crate::words::put_parts;
 use values::Value;
@@ -9,65 +8,72 @@ use workings::read::Head;
 use workings::read::head_of;
 
 // Puts that a value is missing.
-fn put_missing(out: &mut [u8], at: usize) -> usize {
-    put(out, at, b"missing; a missing value is not zero\n")
+fn put_missing(out: &mut [u8], at: usize, words: &[u8]) -> usize {
+    let at = put(out, at, words);
+    put(out, at, b"missing; a missing value is not zero")
 }
 
-// Puts that a zero was entered, and ends the line.
-fn put_zero(out: &mut [u8], at: usize, number: u32) -> usize {
+// Puts that a zero was entered.
+fn put_entered(out: &mut [u8], at: usize, number: u32) -> usize {
     if number == 0 {
-        put(out, at, b", entered as zero\n")
-    } else {
-        put(out, at, b"\n")
+        return put(out, at, b", entered as zero");
     }
+    at
 }
 
 // Puts a yearly amount.
-fn put_yearly(out: &mut [u8], at: usize, value: Value) -> usize {
+fn put_yearly(out: &mut [u8], at: usize, words: &[u8], value: Value) -> usize {
     let Value::Given(dollars) = value else {
-        return put_missing(out, at);
+        return put_missing(out, at, words);
     };
-    let at = put_count(out, at, dollars as u64);
+    let at = put_counted(out, at, words, dollars as u64);
     let at = put(out, at, b" dollars per MW-year");
-    put_zero(out, at, dollars)
+    put_entered(out, at, dollars)
 }
 
-// Puts the outage rate.
-fn put_outage(out: &mut [u8], at: usize, value: Value) -> usize {
-    let Value::Given(rate) = value else {
-        return put_missing(out, at);
+// Puts a value of which 10 to the power of `places` parts make one whole.
+fn put_value(
+    out: &mut [u8],
+    at: usize,
+    words: &[u8],
+    value: Value,
+    places: usize,
+    unit: &[u8],
+    part: &[u8],
+) -> usize {
+    let Value::Given(number) = value else {
+        return put_missing(out, at, words);
     };
-    let at = put_parts(out, at, rate as u64, 2, b" percent (", b" hundredths)");
-    put_zero(out, at, rate)
+    let at = put_parts(out, at, words, number as u64, places, unit, part);
+    put_entered(out, at, number)
 }
 
-// Puts the reliability requirement.
-fn put_requirement(out: &mut [u8], at: usize, value: Value) -> usize {
-    let Value::Given(tenths) = value else {
-        return put_missing(out, at);
-    };
-    let at = put_parts(out, at, tenths as u64, 1, b" MW (", b" tenths)");
-    put_zero(out, at, tenths)
-}
-
-// Puts the two yearly amounts.
-fn put_costs(out: &mut [u8], at: usize, p: Parameters) -> usize {
+// Puts the four values that may be missing.
+fn put_values(out: &mut [u8], at: usize, p: Parameters) -> usize {
     let cost = p.cost;
     let offset = p.offset;
-    let at = put(out, at, b"  C, cost of new entry   ");
-    let at = put_yearly(out, at, cost);
-    let at = put(out, at, b"  E, revenue offset      ");
-    put_yearly(out, at, offset)
-}
-
-// Puts the outage rate and the requirement.
-fn put_rates(out: &mut [u8], at: usize, p: Parameters) -> usize {
     let outage = p.outage;
     let requirement = p.requirement;
-    let at = put(out, at, b"  F, outage rate EFORd   ");
-    let at = put_outage(out, at, outage);
-    let at = put(out, at, b"  R, requirement         ");
-    put_requirement(out, at, requirement)
+    let at = put_yearly(out, at, b"\n  C, cost of new entry   ", cost);
+    let at = put_yearly(out, at, b"\n  E, revenue offset      ", offset);
+    let at = put_value(
+        out,
+        at,
+        b"\n  F, outage rate EFORd   ",
+        outage,
+        2,
+        b" percent (",
+        b" hundredths)",
+    );
+    put_value(
+        out,
+        at,
+        b"\n  R, requirement         ",
+        requirement,
+        1,
+        b" MW (",
+        b" tenths)",
+    )
 }
 
 // Puts the parameters and the number of offers.
@@ -78,10 +84,8 @@ fn put_parameters(out: &mut [u8], at: usize, p: Parameters, offers: u32) -> usiz
         b"The book states\n  delivery year          ",
         p.year as u64,
     );
-    let at = put(out, at, b"\n");
-    let at = put_costs(out, at, p);
-    let at = put_rates(out, at, p);
-    let at = put_counted(out, at, b"  offers                 ", offers as u64);
+    let at = put_values(out, at, p);
+    let at = put_counted(out, at, b"\n  offers                 ", offers as u64);
     put(out, at, b"\n\n")
 }
 

@@ -11,48 +11,44 @@ pub fn put(out: &mut [u8], at: usize, words: &[u8]) -> usize {
     put_bytes(out, at, words)
 }
 
-// Puts a number.
-pub fn put_count(out: &mut [u8], at: usize, n: u64) -> usize {
+// Puts words and a number.
+pub fn put_counted(out: &mut [u8], at: usize, words: &[u8], n: u64) -> usize {
+    let at = put_bytes(out, at, words);
     put_number(out, at, n)
 }
 
-// Puts words and a number.
-pub fn put_counted(out: &mut [u8], at: usize, words: &[u8], n: u64) -> usize {
-    let at = put(out, at, words);
-    put_count(out, at, n)
-}
-
-// Puts n parts, of which 10 to the power of `places` make one whole.
-pub fn put_point(out: &mut [u8], at: usize, n: u64, places: usize) -> usize {
+// Puts words and n parts, of which 10 to the power of `places` make one whole.
+fn put_whole(out: &mut [u8], at: usize, words: &[u8], n: u64, places: usize) -> usize {
+    let at = put_bytes(out, at, words);
     put_decimal(out, at, n, places)
 }
 
-// Puts parts of a unit, with the parts in brackets.
+// Puts words and parts of a unit, with the parts in brackets.
 pub fn put_parts(
     out: &mut [u8],
     at: usize,
+    words: &[u8],
     n: u64,
     places: usize,
     unit: &[u8],
     part: &[u8],
 ) -> usize {
-    let at = put_point(out, at, n, places);
-    let at = put(out, at, unit);
-    let at = put_count(out, at, n);
+    let at = put_whole(out, at, words, n, places);
+    let at = put_counted(out, at, unit, n);
     put(out, at, part)
 }
 
-// Puts tenths of a megawatt as megawatts.
-pub fn put_megawatts(out: &mut [u8], at: usize, tenths: u32) -> usize {
-    put_parts(out, at, tenths as u64, 1, b" MW (", b")")
+// Puts words and tenths of a megawatt as megawatts.
+pub fn put_megawatts(out: &mut [u8], at: usize, words: &[u8], tenths: u32) -> usize {
+    put_parts(out, at, words, tenths as u64, 1, b" MW (", b")")
 }
 
-// Puts cents per MW-day as dollars.
-pub fn put_price(out: &mut [u8], at: usize, cents: u32) -> usize {
-    put_parts(out, at, cents as u64, 2, b" (", b")")
+// Puts words and cents per MW-day as dollars.
+pub fn put_price(out: &mut [u8], at: usize, words: &[u8], cents: u32) -> usize {
+    put_parts(out, at, words, cents as u64, 2, b" (", b")")
 }
 
-// Puts mills as dollars.
-pub fn put_mills(out: &mut [u8], at: usize, mills: u64) -> usize {
-    put_parts(out, at, mills, 3, b" dollars (", b" mills)")
+// Puts words and mills as dollars.
+pub fn put_mills(out: &mut [u8], at: usize, words: &[u8], mills: u64) -> usize {
+    put_parts(out, at, words, mills, 3, b" dollars (", b" mills)")
 }
