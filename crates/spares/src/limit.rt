@@ -33,19 +33,14 @@ pub fn under(keys: &[u32], standings: &[u32], n: usize, limit: u32) -> u32
     count
 }
 
-// The higher of a number and a contender's key.
-fn raised(high: u32, standing: u32, key: u32) -> u32
-    ensures { λ r. ⌜ (high ≤ r) × (standing ≡ 1 → key ≤ r) ⌝ }
+// The higher of a number and a key.
+fn raised(high: u32, key: u32) -> u32
+    ensures { λ r. ⌜ (high ≤ r) × (key ≤ r) ⌝ }
 {
-    if standing == 1 {
-        if high < key {
-            return key;
-        }
-    }
-    high
+    if high < key { key } else { high }
 }
 
-// A number that no contender's key passes.
+// A number that no key passes, a contender's or not: so the loop has one test and runs in lanes.
 fn highest(keys: &[u32], standings: &[u32], n: usize) -> u32
     requires { ⌜ Rows (now keys) (now standings) n ⌝ }
     ensures { λ r. ⌜ AtMost (contenders (now (standings .entry))) (keyOf (now (keys .entry))) n r ⌝ }
@@ -53,7 +48,7 @@ fn highest(keys: &[u32], standings: &[u32], n: usize) -> u32
     let mut high: u32 = 0;
     let mut i: usize = 0;
     while i < n {
-        high = raised(high, standings[i], keys[i]);
+        high = raised(high, keys[i]);
         i += 1;
     }
     high

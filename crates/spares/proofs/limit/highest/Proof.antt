@@ -5,7 +5,6 @@ use native.Mathlib.Nat.{le-trans}
 use native.Mathlib.Omega.{arith}
 use borrow.Author.Count.{below-none, below-more}
 use borrow.Author.Needs.{needs}
-use borrow.Author.Tests.{eqb-true}
 use Rattle.spares.specs.Contest.{contenders}
 use Rattle.spares.specs.Sieve.{AtMost, keyOf}
 use Rattle.spares.proofs.limit.highest.Statement.{statement}
@@ -26,12 +25,6 @@ mul-raised c = search needs
 shared-slice-read-raised : tie.Need-shared-slice-read-raised Inv-loop μ-loop
 shared-slice-read-raised c = search needs
 
-mul-raised-2 : tie.Need-mul-raised-2 Inv-loop μ-loop
-mul-raised-2 c = search needs
-
-shared-slice-read-raised-2 : tie.Need-shared-slice-read-raised-2 Inv-loop μ-loop
-shared-slice-read-raised-2 c = search needs
-
 raised-requires : tie.Need-raised-requires Inv-loop μ-loop
 raised-requires c κs = search needs
 
@@ -43,11 +36,11 @@ loop-less c = search needs
 
 loop-again : tie.Need-loop-again Inv-loop μ-loop
 loop-again c =
-    let before = c .before .before .before .before .loop .inv .1 in (
+    let before = c .before .before .before .loop .inv .1 in (
       omega arith,
       below-more _ _
           (λ k l e. le-trans (before k l e) (c .raised .ensures .0))
-          (λ e. c .raised .ensures .1 (eqb-true _ _ e)),
+          (λ e. c .raised .ensures .1),
     )
 
 returns : tie.Need-returns Inv-loop μ-loop
@@ -62,8 +55,6 @@ highest-spec =
     loop-holds
     mul-raised
     shared-slice-read-raised
-    mul-raised-2
-    shared-slice-read-raised-2
     raised-requires
     add-i
     loop-less
