@@ -107,10 +107,10 @@ def refusal(number, place, book, offers):
         return opening + " has no price; a missing price is not zero\n"
     if number == 8:
         first = [other[0] for other in offers].index(resource)
-        return opening + f" has a resource number that stands in an earlier row, row {first}\n"
+        return opening + f" has a resource number of an earlier row: row {first}\n"
     least = "not given" if block is None else block
     return (opening + f" has a value out of range:\n  resource {resource}, seller {seller}, price {cents}, quantity {quantity},"
-            f" minimum block {least}\n  ranges: resource and seller 1 or more, price 0 to 1000000, quantity 1 to 200000,\n"
+            f" block {least}\n  ranges: resource and seller 1 or more, price 0 to 1000000, quantity 1 to 200000,\n"
             "  minimum block 1 to the quantity\n")
 
 
@@ -178,13 +178,13 @@ def account(values, offers):
         committed = max(cleared, block or 0) if cleared else 0
         mills = (cents or 0) * (committed - cleared)
         whole += mills
-        at = "zero" if p == 0 else price(p)
-        yield f"row {row}, resource {resource}: {megawatts(quantity)} offered at {at}, stamp {stamp}\n"
+        at = "offered at zero" if p == 0 else "at " + price(p)
+        yield f"row {row}, resource {resource}: {megawatts(quantity)} {at}, stamp {stamp}\n"
         yield f"  its level receives {megawatts(amount)} of {megawatts(total)}"
         if amount == 0:
-            yield ": X leaves nothing for it, so the row clears nothing\n"
+            yield ": X leaves nothing for the row\n"
         elif amount == total:
-            yield ": all of it, so the row clears whole\n"
+            yield ": all, so the row clears whole\n"
         else:
             got = "one" if resource in spare else "no"
             yield (f"\n  its share is {quantity} x {amount} / {total} = {downs[resource]}, remainder {quantity * amount % total} / {total};"
@@ -192,7 +192,7 @@ def account(values, offers):
         kind = "flexible" if block is None else f"minimum block {megawatts(block)}"
         yield f"  cleared {megawatts(cleared)}, committed {megawatts(committed)}; {kind}\n"
         if mills:
-            yield f"  make-whole {dollars(mills)} a day: the price on what it commits past what cleared\n"
+            yield f"  make-whole {dollars(mills)} a day: price times (committed - cleared)\n"
         elif cleared == 0:
             yield "  make-whole 0: nothing of the row cleared, so it commits nothing\n"
         elif cleared < committed:

@@ -133,7 +133,7 @@ fn put_values(out: &mut [u8], at: usize, o: Offer) -> usize {
     let at = put_counted(out, at, b", seller ", o.seller as u64);
     let at = put_value(out, at, b", price ", price);
     let at = put_counted(out, at, b", quantity ", o.quantity as u64);
-    put_value(out, at, b", minimum block ", block)
+    put_value(out, at, b", block ", block)
 }
 
 // The ranges of an offer's values.
@@ -164,7 +164,7 @@ fn put_repeat(out: &mut [u8], at: usize, book: &[u8], row: u32, resource: u32) -
     let at = put_counted(
         out,
         at,
-        b" has a resource number that stands in an earlier row, row ",
+        b" has a resource number of an earlier row: row ",
         first as u64,
     );
     put(out, at, b"\n")

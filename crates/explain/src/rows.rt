@@ -17,7 +17,7 @@ fn put_offered(out: &mut [u8], at: usize, price: Value) -> usize {
     if cents == 0 {
         return put(out, at, b" offered at zero");
     }
-    put_price(out, at, b" offered at ", cents)
+    put_price(out, at, b" at ", cents)
 }
 
 // Puts a row's offer.
@@ -51,14 +51,10 @@ fn put_remainder(out: &mut [u8], at: usize, s: Share, cleared: u32) -> usize {
 // Puts a row's share of what its level receives: of a whole or an empty level there is no fraction to work.
 fn put_part(out: &mut [u8], at: usize, quantity: u32, s: Share, cleared: u32) -> usize {
     if s.amount == 0 {
-        return put(
-            out,
-            at,
-            b": X leaves nothing for it, so the row clears nothing",
-        );
+        return put(out, at, b": X leaves nothing for the row");
     }
     if s.amount == s.sum {
-        return put(out, at, b": all of it, so the row clears whole");
+        return put(out, at, b": all, so the row clears whole");
     }
     let at = put_down(out, at, quantity, s);
     put_remainder(out, at, s, cleared)
@@ -118,11 +114,7 @@ fn put_whole(
         return put_no_whole(out, at, cleared, committed);
     }
     let at = put_mills(out, at, b"\n  make-whole ", mills);
-    put(
-        out,
-        at,
-        b" a day: the price on what it commits past what cleared\n",
-    )
+    put(out, at, b" a day: price times (committed - cleared)\n")
 }
 
 // Puts a row.
