@@ -1,4 +1,4 @@
--- `curve::points` meets its contract: each field is what its helper ensures, and such points go right and never up.
+-- `curve::points` meets its contract: each field is what the function that makes it ensures, and such points go right and never up.
 -- Assumes nothing.
 use borrow.Author.Needs.{needs}
 use Rattle.curve.specs.Points.{secondPrice, quantityAt}
