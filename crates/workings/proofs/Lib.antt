@@ -1,4 +1,0 @@
-pub mod Offered
-pub mod Stops
-pub mod Shared
-pub mod Worked

@@ -1,4 +1,0 @@
-pub mod Read
-pub mod Stop
-pub mod Share
-pub mod Works
