@@ -1,10 +1,9 @@
 -- What is committed and what is paid. Mills are tenths of a cent: cents per MW-day times tenths of a megawatt.
 -- Assumes nothing.
-use Prim.Native.Nat.{ℕ, _+_, _-_, _*_, max}
+use Prim.Native.Nat.{ℕ, _-_, _*_, max}
 use mathlib.Core.Bool.{cond}
 use mathlib.Core.Option.{Option, none, some}
 use lib.Dec.{eqb}
-use Rattle.laws.specs.Sum.{sumTo}
 
 -- the cleared quantity, or the minimum block if that is larger and the cleared quantity is not 0; no block: flexible
 abbrev pub committed : Option ℕ → ℕ → ℕ

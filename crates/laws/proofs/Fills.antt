@@ -1,6 +1,6 @@
 -- Laws of `filled`: what a loop that stores one entry a turn shows of its list, and what stands where afterwards.
 -- Assumes nothing.
-use mathlib.Core.Path.{_≡_, refl, ap, sym, _∙_}
+use mathlib.Core.Path.{_≡_, refl, _∙_}
 use Prim.Native.Nat.{ℕ, zero, suc, _+_, _≤_, _<_}
 use mathlib.Core.List.{List}
 use native.Mathlib.Numerals.{add-one}

@@ -4,12 +4,11 @@
 -- most the sum over all; two tests, of which one implies the other; a place that counts.
 -- Assumes nothing.
 use mathlib.Core.Path.{_≡_, refl, sym, ap, _∙_}
-use mathlib.Core.Bool.{Bool, true, false, cond}
 use Prim.Native.Nat.{ℕ, zero, suc, _+_, _*_, _≤_, _<_}
 use native.Mathlib.Nat.{mul-add, mul-zero, not-suc-le-zero}
 use native.Mathlib.Omega.{arith}
-use Rattle.laws.specs.Sum.{sumTo, sumWhere, countWhere}
-use Rattle.laws.proofs.Cases.{by-order, by-test, cond-true, cond-false}
+use Rattle.laws.specs.Sum.{sumTo}
+use Rattle.laws.proofs.Cases.{by-order}
 
 pub sumTo-zero : (f : ℕ → ℕ) → sumTo f 0 ≡ 0
 unfolding sumTo

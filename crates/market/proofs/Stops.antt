@@ -3,7 +3,7 @@
 -- In order: the test; the same by what is offered one cent lower, for a price that passes and one that fails; it is closed
 -- downward; so no more than x is offered strictly below the level at which x stops.
 -- Assumes nothing.
-use mathlib.Core.Path.{_≡_, ap, sym, _∙_}
+use mathlib.Core.Path.{_≡_, ap, _∙_}
 use mathlib.Core.Bool.{Bool, true, false}
 use Prim.Native.Nat.{ℕ, suc, _-_, _≤_, _<_}
 use native.Mathlib.Omega.{arith}

@@ -2,17 +2,15 @@
 --
 -- In order: books that differ in minimum blocks alone; they make the same auction; so they clear the same at the same price.
 -- Assumes nothing.
-use mathlib.Core.Path.{_≡_, refl, ap, ap₂, sym, fun-ext, _∙_}
-use mathlib.Core.Bool.{Bool, true, false, cond}
+use mathlib.Core.Path.{_≡_, ap, sym, fun-ext, _∙_}
+use mathlib.Core.Bool.{cond}
 use mathlib.Core.List.{List}
 use Prim.Native.Nat.{ℕ, _<_}
 use lib.Dec.{ltb}
 use lib.ListN.{getD}
 use borrow.Author.Tests.{ltb-true}
 use Rattle.laws.proofs.Cases.{by-test, cond-true, cond-false}
-use Rattle.auction.specs.Offers.{Offers}
 use Rattle.values.specs.Values.{held}
-use Rattle.values.specs.declared.head.Parameters.{Parameters}
 use Rattle.values.specs.declared.place.Offer.{Offer}
 use Rattle.market.specs.Price.{asPrice}
 use Rattle.layout.specs.Form.{offerCount}

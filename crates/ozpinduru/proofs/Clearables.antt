@@ -4,8 +4,8 @@
 -- Assumes nothing.
 use mathlib.Core.Path.{_≡_, refl}
 use mathlib.Core.List.{List}
-use mathlib.Core.Option.{some, none}
-use Prim.Native.Nat.{ℕ, _≤_, _<_}
+use mathlib.Core.Option.{some}
+use Prim.Native.Nat.{ℕ}
 use Rattle.values.specs.declared.Value.{Value}
 use Rattle.values.specs.declared.Value.the-variants.{Given, Missing}
 use Rattle.values.specs.declared.Verdict.the-variants.{Passed}
@@ -14,7 +14,7 @@ use Rattle.curve.specs.Points.{InRange}
 use Rattle.limits.specs.Ranges.{Ranged}
 use Rattle.settle.specs.Read.{optional}
 use Rattle.layout.specs.Form.{offerCount}
-use Rattle.layout.specs.Read.{bookParameters, bookOffer}
+use Rattle.layout.specs.Read.{bookParameters}
 use Rattle.book.specs.Faults.{firstFault}
 use Rattle.book.proofs.Accepted.{accepted-inside, accepted-in-range, accepted-priced, accepted-distinct}
 use Rattle.ozpinduru.specs.Auction.{termsOf}

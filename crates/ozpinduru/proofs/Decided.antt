@@ -2,7 +2,7 @@
 -- Assumes nothing.
 use mathlib.Core.Path.{_≡_, sym, _∙_}
 use mathlib.Core.List.{List}
-use Prim.Native.Nat.{ℕ, _≤_}
+use Prim.Native.Nat.{ℕ}
 use Rattle.values.specs.declared.head.Parameters.{Parameters}
 use Rattle.ozpinduru.specs.Answer.{Outcome}
 use Rattle.ozpinduru.specs.Payment.{ClearedAs}

@@ -4,15 +4,13 @@
 -- paid; the numbers in the cleared buffer clear by price, and are the best choice; they divide each price level by the stated
 -- shares; minimum blocks change nothing of what is cleared.
 -- Assumes nothing.
-use mathlib.Core.Path.{_≡_, refl, sym, ap, _∙_}
+use mathlib.Core.Path.{_≡_, ap, _∙_}
 use mathlib.Core.List.{List}
-use mathlib.Core.Option.{Option, none, some}
-use mathlib.Core.Logic.{_⊎_}
-use Prim.Native.Nat.{ℕ, suc, _+_, _*_, _≤_, _<_}
+use Prim.Native.Nat.{ℕ, _<_}
 use lib.ListN.{getD}
 use Rattle.laws.specs.Sum.{sumTo}
 use Rattle.laws.proofs.Sums.{sumTo-ext}
-use Rattle.auction.specs.Offers.{Offers, Demand, Falling, Proper}
+use Rattle.auction.specs.Offers.{Offers, Demand}
 use Rattle.auction.specs.Clearing.{clearedTotal, clearingPrice}
 use Rattle.auction.specs.Shares.{cleared}
 use Rattle.auction.proofs.Total.{IsTotal, total-is-largest}
@@ -20,7 +18,6 @@ use Rattle.auction.proofs.Best.{ByPrice, Best, byPrice-best}
 use Rattle.auction.proofs.Cleared.{cleared-byPrice}
 use Rattle.auction.proofs.Divided.{Divided, cleared-divided, divided-agree}
 use Rattle.market.specs.Price.{asPrice}
-use Rattle.layout.specs.Form.{offerCount}
 use Rattle.layout.specs.Read.{bookParameters}
 use Rattle.book.specs.Faults.{firstFault}
 use Rattle.values.specs.declared.Verdict.the-variants.{Passed}

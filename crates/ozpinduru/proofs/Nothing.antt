@@ -1,9 +1,9 @@
 -- Where nothing clears there is no price, and every amount of mills is 0.
 -- Assumes nothing.
-use mathlib.Core.Path.{_≡_, refl, ap, sym, _∙_}
+use mathlib.Core.Path.{_≡_, ap, sym, _∙_}
 use mathlib.Core.List.{List}
-use mathlib.Core.Option.{Option, none}
-use Prim.Native.Nat.{ℕ, _+_, _*_}
+use mathlib.Core.Option.{none}
+use Prim.Native.Nat.{ℕ, _*_}
 use native.Mathlib.Nat.{mul-zero}
 use native.Mathlib.Omega.{arith}
 use Rattle.laws.proofs.Sums.{sumTo-none}

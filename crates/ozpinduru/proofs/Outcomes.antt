@@ -3,11 +3,10 @@
 -- In order: a call that answers with a clearing had no fault; so the clearing, the cleared buffer and the committed buffer are
 -- those of the book; a call that answers with a refusal left both buffers as they were.
 -- Assumes nothing.
-use mathlib.Core.Path.{_≡_, refl, sym, ap, _∙_}
+use mathlib.Core.Path.{_≡_, refl, ap, _∙_}
 use mathlib.Core.List.{List}
 use Prim.Native.Nat.{ℕ, _<_}
 use lib.ListN.{length, getD}
-use Rattle.laws.specs.Filled.{filled}
 use Rattle.laws.proofs.Fills.{getD-filled}
 use Rattle.values.specs.declared.Verdict.{Verdict}
 use Rattle.values.specs.declared.Verdict.the-variants.{Passed, Refused}

@@ -28,9 +28,8 @@ use Rattle.layout.specs.Form.{offerCount}
 use Rattle.layout.specs.Read.{bookOffer}
 use Rattle.ozpinduru.specs.Auction.{termsOf, offersOf, demand, total, price, rowCleared, rowMakeWhole, allMakeWhole, dailyTotal, yearTotal}
 use Rattle.ozpinduru.specs.Sale.{Clearable}
-use Rattle.ozpinduru.specs.Payment.{commitmentOf, wholeOf, Payable}
+use Rattle.ozpinduru.specs.Payment.{wholeOf, Payable}
 use Rattle.ozpinduru.specs.Answer.{clearingOf}
-use Rattle.ozpinduru.specs.declared.Clearing.{Clearing}
 use Rattle.ozpinduru.proofs.Ground.{ofRow-there, clearable-shaped, clearable-falls, clearable-proper}
 
 -- a price that is said as the code says it is quoted again

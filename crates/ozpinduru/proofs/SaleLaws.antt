@@ -7,9 +7,8 @@ use mathlib.Core.Path.{_≡_, refl, ap, sym, subst, _∙_}
 use mathlib.Core.List.{List}
 use Prim.Native.Nat.{ℕ, _≤_}
 use lib.ListN.{length}
-use Rattle.auction.specs.Offers.{Offers, supply, supplyBelow, levelSum}
+use Rattle.auction.specs.Offers.{Offers, supply}
 use Rattle.auction.specs.Clearing.{clearedTotal, nextPrice, clearingPrice}
-use Rattle.auction.specs.Shares.{levelAmount}
 use Rattle.values.specs.declared.head.Parameters.{Parameters}
 use Rattle.curve.specs.Shape.{curve2026}
 use Rattle.curve.specs.Price.{demandOf}
@@ -23,7 +22,7 @@ use Rattle.market.specs.declared.price.ClearingPrice.{ClearingPrice}
 use Rattle.market.proofs.Agree.{price-agrees}
 use Rattle.shares.specs.Out.{SharedOut}
 use Rattle.columns.specs.Columns.{Columns, ColumnsRead}
-use Rattle.ozpinduru.specs.Auction.{termsOf, offersOf, total, price}
+use Rattle.ozpinduru.specs.Auction.{termsOf, total, price}
 use Rattle.ozpinduru.specs.Sale.{Clearable, SoldAs, SoldColumns}
 use Rattle.ozpinduru.specs.declared.sale.Sale.{Sale}
 use Rattle.ozpinduru.proofs.Sales.{empty, columns-offers, shared-cleared}

@@ -3,7 +3,7 @@
 -- In order: the columns read from a book are its offers; their prices and quantities; their keys for the spare tenths; the
 -- amounts shared out are what the rows clear.
 -- Assumes nothing.
-use mathlib.Core.Path.{_≡_, refl, ap, sym, subst, _∙_}
+use mathlib.Core.Path.{_≡_, ap, sym, _∙_}
 use mathlib.Core.Bool.{cond}
 use mathlib.Core.List.{List}
 use Prim.Native.Nat.{ℕ, _≤_, _<_}
@@ -18,7 +18,7 @@ use Rattle.laws.proofs.Cases.{by-order}
 use Rattle.auction.specs.Offers.{Offers}
 use Rattle.auction.specs.Shares.{cleared}
 use Rattle.values.specs.declared.head.Parameters.{Parameters}
-use Rattle.market.specs.Rows.{Rows, listed, rowsOf}
+use Rattle.market.specs.Rows.{Rows, rowsOf}
 use Rattle.shares.specs.Out.{SharedOut, Ordered}
 use Rattle.columns.specs.Column.{priceOf, quantityOf, highOf, lowOf, resourceOf}
 use Rattle.columns.specs.Columns.{Columns, columnsOf, ColumnsRead}

@@ -3,7 +3,7 @@
 use Prim.Native.Nat.{ℕ, _≤_, _<_}
 use mathlib.Core.Path.{_≡_}
 use mathlib.Core.List.{List}
-use mathlib.Core.Option.{Option, some}
+use mathlib.Core.Option.{Option}
 use lib.ListN.{length, getD}
 use Rattle.laws.specs.Sum.{sumTo}
 use Rattle.laws.specs.Filled.{filled}

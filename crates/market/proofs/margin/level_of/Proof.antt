@@ -1,7 +1,7 @@
 -- `market::margin::level_of` is the level at which a total stops.
 -- Assumes nothing.
 use mathlib.Core.Path.{_≡_, refl, sym, subst}
-use Prim.Native.Nat.{ℕ, _+_, _-_, _≤_, _<_, min}
+use Prim.Native.Nat.{ℕ, _-_, _≤_, min}
 use native.Mathlib.Omega.{arith}
 use borrow.Author.Needs.{needs}
 use Rattle.auction.specs.Offers.{Offers, supply, supplyBelow, levelSum}

@@ -1,13 +1,7 @@
 -- `market::margin::stop_level` is the highest price under which no more than x is offered, by a search by halves.
 -- Assumes nothing.
-use mathlib.Core.Path.{_≡_, ap, sym, _∙_}
-use mathlib.Core.Bool.{Bool, true, false}
-use Prim.Native.Nat.{ℕ, suc, _-_, _≤_, _<_}
-use lib.Dec.{leb}
-use borrow.Author.Tests.{le-leb, lt-leb}
+use Prim.Native.Nat.{_-_}
 use Rattle.laws.proofs.Halving.{Halving, halving-start, halving-passed, halving-failed, halving-met}
-use Rattle.auction.specs.Offers.{supplyBelow}
-use Rattle.auction.proofs.Supply.{supplyBelow-suc}
 use Rattle.market.specs.Rows.{listed}
 use Rattle.market.specs.Stop.{stopLevel}
 use Rattle.market.proofs.Stops.{stops, stops-passed, stops-failed, stops-closed}

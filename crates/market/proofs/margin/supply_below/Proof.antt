@@ -1,6 +1,6 @@
 -- `market::margin::supply_below` is what is offered strictly below a price: at or below the price one cent lower.
 -- Assumes nothing.
-use mathlib.Core.Path.{_≡_, ap, sym, _∙_}
+use mathlib.Core.Path.{ap, sym, _∙_}
 use native.Mathlib.Omega.{arith}
 use borrow.Author.Needs.{needs}
 use Rattle.auction.specs.Offers.{supplyBelow}

@@ -1,17 +1,15 @@
 -- `market::price::clearing_price` meets its contract: the tests pick no price, the level's or the curve's.
 -- Assumes nothing.
-use mathlib.Core.Path.{_≡_, ap, sym, _∙_}
-use mathlib.Core.Bool.{Bool, true, false, cond}
+use mathlib.Core.Path.{_≡_, ap}
 use Prim.Native.Nat.{ℕ, _≤_, _<_, min}
 use native.Mathlib.Omega.{arith}
-use lib.Dec.{eqb, ltb}
 use borrow.Author.Needs.{needs}
 use borrow.Author.Tests.{eq-eqb, ne-eqb, lt-ltb, le-ltb}
 use Rattle.curve.specs.Price.{tenthPrice}
 use Rattle.curve.specs.declared.Curve.{Curve}
 use Rattle.market.specs.Price.{priceAt}
 use Rattle.market.specs.declared.margin.Level.{Level}
-use Rattle.market.specs.declared.price.ClearingPrice.the-variants.{Price, NoPrice}
+use Rattle.market.specs.declared.price.ClearingPrice.the-variants.{Price}
 use Rattle.market.proofs.price.clearing_price.Statement.{statement}
 use Rattle.market.proofs.price.clearing_price.Tie as tie
 

@@ -1,9 +1,8 @@
 -- `market::total::cleared_total` is the cleared total, by a search by halves.
 -- Assumes nothing.
-use mathlib.Core.Path.{_≡_, ap, subst, sym}
+use mathlib.Core.Path.{_≡_, subst}
 use mathlib.Core.Bool.{true, false}
 use Prim.Native.Nat.{ℕ, _-_, _≤_, _<_}
-use lib.Dec.{leb}
 use borrow.Author.Tests.{le-leb, lt-leb}
 use Rattle.laws.proofs.Halving.{Halving, halving-start, halving-passed, halving-failed}
 use Rattle.auction.specs.Offers.{Offers, supply}

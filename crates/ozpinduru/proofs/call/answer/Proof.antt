@@ -1,6 +1,6 @@
 -- `answer` hands on the book's first fault, or what its rows clear.
 -- Assumes nothing.
-use mathlib.Core.Path.{_≡_, sym, ap, _∙_}
+use mathlib.Core.Path.{_≡_, sym, _∙_}
 use Rattle.values.specs.declared.Verdict.the-variants.{Passed}
 use Rattle.book.specs.Faults.{firstFault}
 use Rattle.book.proofs.Accepted.{accepted-inside}

@@ -1,6 +1,6 @@
 -- `clear_accepted` clears an accepted book into its buffers.
 -- Assumes nothing.
-use mathlib.Core.Path.{_≡_, sym, subst, refl}
+use mathlib.Core.Path.{sym, subst, refl}
 use Rattle.laws.proofs.Filling.{length-zeros, length-filling}
 use Rattle.layout.specs.Read.{Inside}
 use Rattle.layout.proofs.Passing.{form-passed-length}
