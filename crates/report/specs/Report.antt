@@ -21,24 +21,28 @@ soldLine b quote cleared committed row =
     rowText (bookOffer b row .resource) (getD cleared row 0) (getD committed row 0)
     (mills quote (getD committed row 0 - getD cleared row 0))
 
--- the lines of a clearing whose rows stand in two lists
+-- the lines of a clearing: X, the price, every row in book order, the daily and the year total
+abbrev pub linesText : ℕ → Option ℕ → (ℕ → List ℕ) → ℕ → ℕ → ℕ → List ℕ
+linesText x quote line n daily year =
+    lineText clearedWord x
+    ++ priceText quote
+    ++ rowsText line n
+    ++ lineText dailyWord daily
+    ++ lineText yearWord year
+
+-- those of a clearing whose rows stand in two lists
 unfoldable pub soldText : List ℕ → Clearing → List ℕ → List ℕ → List ℕ
 soldText b c cleared committed =
-    lineText clearedWord (c .total)
-    ++ priceText (quoted (c .price))
-    ++ rowsText (soldLine b (quoted (c .price)) cleared committed) (offerCount b)
-    ++ lineText dailyWord (c .daily)
-    ++ lineText yearWord (c .year)
+    linesText (c .total) (quoted (c .price)) (soldLine b (quoted (c .price)) cleared committed) (offerCount b)
+    (c .daily) (c .year)
 
--- the lines of an accepted book: X, the price, every row in book order, the daily and the year total
+-- those of an accepted book
 unfoldable pub clearingText : List ℕ → List ℕ
 clearingText b =
     let p = bookParameters b in
-    lineText clearedWord (total b p)
-    ++ priceText (price b p)
-    ++ rowsText (λ row. rowText (bookOffer b row .resource) (rowCleared b p row) (rowCommitted b p row) (rowMakeWhole b p row)) (offerCount b)
-    ++ lineText dailyWord (dailyTotal b p)
-    ++ lineText yearWord (yearTotal b p)
+    linesText (total b p) (price b p)
+    (λ row. rowText (bookOffer b row .resource) (rowCleared b p row) (rowCommitted b p row) (rowMakeWhole b p row))
+    (offerCount b) (dailyTotal b p) (yearTotal b p)
 
 -- a refusal's one line, or the lines of the clearing
 abbrev pub reportBy : Verdict → List ℕ → List ℕ
