@@ -1,33 +1,46 @@
 -- The faults of a book, stage by stage as the code goes: the form, the parameters, the rows.
 --
--- In order: three tests, of which two are taken together; a book whose form is refused; what decides where the form passed;
--- that its rows then lie within it.
+-- In order: three tests, of which two are taken together; what comes before the rows; a book whose form is refused; what
+-- decides where the form passed; that its rows then lie within it.
 -- Assumes nothing.
-use mathlib.Core.Path.{_≡_, refl, _∙_}
+use mathlib.Core.Path.{_≡_, refl, ap, _∙_}
 use mathlib.Core.Bool.{true, false}
 use mathlib.Core.List.{List}
 use Prim.Native.Nat.{ℕ}
 use Rattle.values.specs.Refusals.{andThen}
 use Rattle.values.specs.declared.Verdict.{Verdict}
 use Rattle.values.specs.declared.Verdict.the-variants.{Passed, Refused}
-use Rattle.values.proofs.Firsts.{andThen-next, andThen-refused}
+use Rattle.values.proofs.Firsts.{andThen-next, andThen-refused, andThen-left}
 use Rattle.limits.specs.Parameters.{missingFault, rangeFault}
 use Rattle.limits.specs.Offers.{rowsFault}
 use Rattle.layout.specs.Form.{formFault, offerCount}
 use Rattle.layout.specs.Read.{bookParameters, bookOffer, Inside}
 use Rattle.layout.proofs.Passing.{form-passed-count, form-passed-row}
-use Rattle.book.specs.Faults.{firstFault, soundFault}
+use Rattle.book.specs.Faults.{firstFault, statedFault, soundFault}
 
 andThen-assoc : (u v w : Verdict) → andThen u (andThen v w) ≡ andThen (andThen u v) w
 andThen-assoc Passed v w = refl
 andThen-assoc (Refused number place) v w = refl
 
+-- ---- what comes before the rows
+
+-- of a book to be cleared it decides, and then the rows do
+pub first-stated : (b : List ℕ) → firstFault b ≡ andThen (statedFault b) (rowsFault true (bookOffer b) (offerCount b))
+unfolding firstFault statedFault
+first-stated b =
+    ap (andThen (formFault b)) (andThen-assoc (missingFault (bookParameters b)) _ _) ∙ andThen-assoc (formFault b) _ _
+
+-- where it passed, the form did
+pub stated-form : (b : List ℕ) → statedFault b ≡ Passed → formFault b ≡ Passed
+unfolding statedFault
+stated-form b e = andThen-left (formFault b) _ e
+
 -- ---- the form is refused
 
 module _ (b : List ℕ) {number place : ℕ} (refused : formFault b ≡ Refused number place) where
-  pub first-form-refused : firstFault b ≡ Refused number place
-  unfolding firstFault
-  first-form-refused = andThen-refused (formFault b) _ number place refused
+  pub stated-form-refused : statedFault b ≡ Refused number place
+  unfolding statedFault
+  stated-form-refused = andThen-refused (formFault b) _ number place refused
 
   pub sound-form-refused : soundFault b ≡ Refused number place
   unfolding soundFault
@@ -36,6 +49,10 @@ module _ (b : List ℕ) {number place : ℕ} (refused : formFault b ≡ Refused 
 -- ---- the form passed
 
 module _ (b : List ℕ) (formed : formFault b ≡ Passed) where
+  pub stated-formed : statedFault b ≡ andThen (missingFault (bookParameters b)) (rangeFault (bookParameters b))
+  unfolding statedFault
+  stated-formed = andThen-next (formFault b) _ formed
+
   -- the parameters decide, by 4 and then 5, and then the rows
   pub first-formed : firstFault b
       ≡ andThen (andThen (missingFault (bookParameters b)) (rangeFault (bookParameters b))) (rowsFault true (bookOffer b) (offerCount b))

@@ -19,6 +19,10 @@ firstFault b =
     (andThen (rangeFault (bookParameters b))
     (rowsFault true (bookOffer b) (offerCount b))))
 
+-- what of it comes before the rows
+unfoldable pub statedFault : List ℕ → Verdict
+statedFault b = andThen (formFault b) (andThen (missingFault (bookParameters b)) (rangeFault (bookParameters b)))
+
 -- A sound book passes 1 to 3, and its given values pass 5, 7 and 8; its missing values are no fault.
 unfoldable pub soundFault : List ℕ → Verdict
 soundFault b =

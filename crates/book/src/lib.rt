@@ -1,5 +1,5 @@
 // The first fault of a book, and whether a book is sound.
-mod rows;
+pub mod rows;
 
 use block::SIZE;
 use layout::form::form;
@@ -10,10 +10,10 @@ use values::Verdict;
 use values::head::parameters_in;
 ghost use mathlib.Core.Path.{_≡_};
 ghost use Rattle.values.specs.Refusals.{andThen};
-ghost use Rattle.book.specs.Faults.{firstFault, soundFault};
+ghost use Rattle.book.specs.Faults.{statedFault, firstFault, soundFault};
 
 // The first fault of two tests: the second's where the first passed.
-fn and_then(test: Verdict, next: Verdict) -> Verdict
+pub fn and_then(test: Verdict, next: Verdict) -> Verdict
     ensures { λ r. ⌜ r ≡ andThen test next ⌝ }
 {
     match test {
@@ -22,9 +22,9 @@ fn and_then(test: Verdict, next: Verdict) -> Verdict
     }
 }
 
-// The first fault of a book that is to be cleared: 1, 2, 3, then 4, then 5, then the rows' 6, 7, 8.
-pub fn verdict(book: &[u8]) -> Verdict
-    ensures { λ r. ⌜ r ≡ firstFault (now (book .entry)) ⌝ }
+// The first fault before the rows of a book that is to be cleared: 1, 2, 3, then 4, then 5.
+pub fn stated_fault(book: &[u8]) -> Verdict
+    ensures { λ r. ⌜ r ≡ statedFault (now (book .entry)) ⌝ }
 {
     if let Verdict::Refused(number, place) = form(book) {
         return Verdict::Refused(number, place);
@@ -32,7 +32,14 @@ pub fn verdict(book: &[u8]) -> Verdict
     let head = &book[0..SIZE];
     let missing = missing_in(head);
     let range = parameter_fault(parameters_in(head));
-    if let Verdict::Refused(number, place) = and_then(missing, range) {
+    and_then(missing, range)
+}
+
+// The first fault of a book that is to be cleared: 1, 2, 3, then 4, then 5, then the rows' 6, 7, 8.
+pub fn verdict(book: &[u8]) -> Verdict
+    ensures { λ r. ⌜ r ≡ firstFault (now (book .entry)) ⌝ }
+{
+    if let Verdict::Refused(number, place) = stated_fault(book) {
         return Verdict::Refused(number, place);
     }
     rows::rows_fault(book, offer_count(book), true)

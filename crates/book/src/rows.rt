@@ -1,25 +1,41 @@
-// The rows of a book: their values' faults, and a repeated resource among those before.
+// The rows of a book: read once into columns, with their values' faults and a repeated resource among those before.
 use layout::reader::row_of;
 use limits::offers::offer_fault;
 use limits::repeats::with_repeats;
 use values::Verdict;
+use values::least_of;
+use values::number_held;
 use values::place::offer_in;
 ghost use mathlib.Core.Path.{_≡_};
-ghost use Prim.Native.Nat.{_≤_};
-ghost use lib.ListN.{length};
+ghost use Rattle.columns.specs.Columns.{columnsOf, Room};
 ghost use Rattle.limits.specs.Offers.{rowsFault};
 ghost use Rattle.layout.specs.Read.{bookOffer, Inside};
-ghost use Rattle.book.specs.Rows.{ValuesRead};
+ghost use Rattle.book.specs.Rows.{ValuesRead, RowsRead};
 
-// The first fault by 6 or 7 among n rows, with the resource numbers of the rows before it.
-fn values_fault(book: &[u8], n: u32, needed: bool, resources: &mut [u32]) -> Verdict
-    requires { ⌜ Inside (now book) n × (n ≤ length (now resources)) ⌝ }
-    ensures { λ r. ⌜ ValuesRead needed (now (book .entry)) n r (now (resources .entry)) (now (resources .exit)) ⌝ }
+// The first fault by 6 or 7 among n rows, with the columns of the rows up to it.
+fn values_fault(
+    book: &[u8],
+    n: u32,
+    needed: bool,
+    prices: &mut [u32],
+    quantities: &mut [u32],
+    leasts: &mut [u32],
+    resources: &mut [u32],
+) -> Verdict
+    requires { ⌜ Inside (now book) n × Room n (columnsOf (now prices) (now quantities) (now leasts) (now resources)) ⌝ }
+    ensures { λ r. ⌜ ValuesRead needed (now (book .entry)) n r
+        (columnsOf (now (prices .entry)) (now (quantities .entry)) (now (leasts .entry)) (now (resources .entry)))
+        (columnsOf (now (prices .exit)) (now (quantities .exit)) (now (leasts .exit)) (now (resources .exit))) ⌝ }
 {
     let mut row: u32 = 0;
     while row < n {
         let at = row as usize;
         let o = offer_in(row_of(book, at));
+        let price = o.price;
+        let block = o.block;
+        prices[at] = number_held(price);
+        quantities[at] = o.quantity;
+        leasts[at] = least_of(block);
         resources[at] = o.resource;
         if let Verdict::Refused(number, place) = offer_fault(needed, o, row) {
             return Verdict::Refused(number, place);
@@ -29,12 +45,42 @@ fn values_fault(book: &[u8], n: u32, needed: bool, resources: &mut [u32]) -> Ver
     Verdict::Passed
 }
 
-// The first fault of n rows, each tested for 6, where prices are needed, for 7 and for 8.
-pub fn rows_fault(book: &[u8], n: u32, needed: bool) -> Verdict
+// The first fault of n rows, each tested for 6, where prices are needed, for 7 and for 8. Where there is none, all n stand in
+// the columns.
+pub fn read_rows(
+    book: &[u8],
+    n: u32,
+    needed: bool,
+    prices: &mut [u32],
+    quantities: &mut [u32],
+    leasts: &mut [u32],
+    resources: &mut [u32],
+) -> Verdict
+    requires { ⌜ Inside (now book) n × Room n (columnsOf (now prices) (now quantities) (now leasts) (now resources)) ⌝ }
+    ensures { λ r. ⌜ RowsRead needed (now (book .entry)) n r
+        (columnsOf (now (prices .entry)) (now (quantities .entry)) (now (leasts .entry)) (now (resources .entry)))
+        (columnsOf (now (prices .exit)) (now (quantities .exit)) (now (leasts .exit)) (now (resources .exit))) ⌝ }
+{
+    let values = values_fault(book, n, needed, prices, quantities, leasts, resources);
+    with_repeats(values, resources, n)
+}
+
+// The first fault of n rows alone.
+pub(crate) fn rows_fault(book: &[u8], n: u32, needed: bool) -> Verdict
     requires { ⌜ Inside (now book) n ⌝ }
     ensures { λ r. ⌜ r ≡ rowsFault needed (bookOffer (now (book .entry))) n ⌝ }
 {
+    let mut prices = [0u32; 600];
+    let mut quantities = [0u32; 600];
+    let mut leasts = [0u32; 600];
     let mut resources = [0u32; 600];
-    let values = values_fault(book, n, needed, &mut resources);
-    with_repeats(values, &resources, n)
+    read_rows(
+        book,
+        n,
+        needed,
+        &mut prices,
+        &mut quantities,
+        &mut leasts,
+        &mut resources,
+    )
 }

@@ -2,15 +2,15 @@
 -- Assumes nothing.
 use mathlib.Core.Path.{_≡_, ap, _∙_}
 use mathlib.Core.List.{List}
-use Prim.Native.Nat.{ℕ, _+_, _/_, _%_}
+use Prim.Native.Nat.{ℕ, _+_}
 use lib.ListN.{set}
 use Rattle.laws.proofs.Fills.{filled-none, filled-more}
-use Rattle.values.specs.Values.{held}
+use Rattle.values.specs.Values.{held, leastOf}
 use Rattle.values.specs.Place.{offerOf}
 use Rattle.values.specs.declared.place.Offer.{Offer}
 use Rattle.layout.specs.Blocks.{rowOf}
 use Rattle.layout.specs.Read.{bookOffer}
-use Rattle.columns.specs.Column.{priceOf, quantityOf, highOf, lowOf, resourceOf}
+use Rattle.columns.specs.Column.{priceOf, quantityOf, leastsOf, resourceOf}
 use Rattle.columns.specs.Columns.{Columns, columnsOf, ColumnsRead}
 
 -- what a row's own bytes hold is the row's offer
@@ -25,27 +25,25 @@ columns-none b lists =
     record {
       price = filled-none (priceOf b) (lists .prices);
       quantity = filled-none (quantityOf b) (lists .quantities);
-      high = filled-none (highOf b) (lists .highs);
-      low = filled-none (lowOf b) (lists .lows);
+      least = filled-none (leastsOf b) (lists .leasts);
       resource = filled-none (resourceOf b) (lists .resources);
     }
 
--- the columns with an offer, and the price that it holds, stored at a row
-abbrev pub stored : Columns → ℕ → Offer → ℕ → Columns
-stored lists row o price =
-    columnsOf (set (lists .prices) row price) (set (lists .quantities) row (o .quantity))
-    (set (lists .highs) row (o .stamp / 4294967296)) (set (lists .lows) row (o .stamp % 4294967296))
+-- the columns with an offer, the price that it holds and the least that it commits, stored at a row
+abbrev pub stored : Columns → ℕ → Offer → ℕ → ℕ → Columns
+stored lists row o price least =
+    columnsOf (set (lists .prices) row price) (set (lists .quantities) row (o .quantity)) (set (lists .leasts) row least)
     (set (lists .resources) row (o .resource))
 
 -- a row's offer, stored into each column, adds the row
-pub columns-more : (b : List ℕ) (row : ℕ) {before after : Columns} {o : Offer} {price : ℕ}
-    → ColumnsRead b row before after → o ≡ bookOffer b row → price ≡ held (o .price) → ColumnsRead b (row + 1) before (stored after row o price)
-columns-more b row read e p =
+pub columns-more : (b : List ℕ) (row : ℕ) {before after : Columns} {o : Offer} {price least : ℕ}
+    → ColumnsRead b row before after → o ≡ bookOffer b row → price ≡ held (o .price) → least ≡ leastOf (o .block)
+    → ColumnsRead b (row + 1) before (stored after row o price least)
+columns-more b row read e p l =
     record {
       price = filled-more (priceOf b) row _ (read .price) (p ∙ ap (λ o. held (o .price)) e);
       quantity = filled-more (quantityOf b) row _ (read .quantity) (ap (λ o. o .quantity) e);
-      high = filled-more (highOf b) row _ (read .high) (ap (λ o. o .stamp / 4294967296) e);
-      low = filled-more (lowOf b) row _ (read .low) (ap (λ o. o .stamp % 4294967296) e);
+      least = filled-more (leastsOf b) row _ (read .least) (l ∙ ap (λ o. leastOf (o .block)) e);
       resource = filled-more (resourceOf b) row _ (read .resource) (ap (λ o. o .resource) e);
     }
 

@@ -3,8 +3,9 @@
 use Prim.Native.Nat.{ℕ, _/_, _%_}
 use mathlib.Core.Path.{_≡_}
 use mathlib.Core.List.{List}
+use lib.ListN.{replicate}
 use Rattle.laws.specs.Filled.{filled}
-use Rattle.values.specs.Values.{held}
+use Rattle.values.specs.Values.{held, leastOf}
 use Rattle.layout.specs.Read.{bookOffer}
 
 module _ (b : List ℕ) (row : ℕ) where
@@ -15,6 +16,10 @@ module _ (b : List ℕ) (row : ℕ) where
   abbrev pub quantityOf : ℕ
   quantityOf = bookOffer b row .quantity
 
+  -- the least that the row commits once any of it clears
+  abbrev pub leastsOf : ℕ
+  leastsOf = leastOf (bookOffer b row .block)
+
   -- the time stamp's two halves
   abbrev pub highOf : ℕ
   highOf = bookOffer b row .stamp / 4294967296
@@ -24,6 +29,13 @@ module _ (b : List ℕ) (row : ℕ) where
 
   abbrev pub resourceOf : ℕ
   resourceOf = bookOffer b row .resource
+
+-- the halves of the stamps of n rows, in lists of 600
+abbrev pub highsOf : List ℕ → ℕ → List ℕ
+highsOf b n = filled (highOf b) n (replicate 600 0)
+
+abbrev pub lowsOf : List ℕ → ℕ → List ℕ
+lowsOf b n = filled (lowOf b) n (replicate 600 0)
 
 -- a list that was `before` holds n rows of a column
 abbrev pub Column : (ℕ → ℕ) → ℕ → List ℕ → List ℕ → Type 0

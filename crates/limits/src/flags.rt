@@ -30,11 +30,17 @@ fn mixed(number: u32) -> usize
     ((number % 65536 + number / 65536) % 8192) as usize
 }
 
-// A row before which every row is fresh: the first that repeats a resource number, or n.
+// Fewer rows than this are looked through sooner than a table of flags is cleared.
+const FEW: usize = 40;
+
+// A row before which every row is fresh: the first that repeats a resource number, or n. Of few rows it says nothing: 0.
 pub fn fresh_rows(resources: &[u32], n: usize) -> usize
     requires { ⌜ n ≤ length (now resources) ⌝ }
     ensures { λ r. ⌜ (r ≤ n) × (every (fresh (λ row. getD (now (resources .entry)) row 0)) r ≡ true) ⌝ }
 {
+    if n < FEW {
+        return 0;
+    }
     let mut met = [false; 8192];
     for row in 0..n {
         let number = resources[row];

@@ -1,22 +1,37 @@
 // What a row commits and what is paid, in mills a day.
 use market::price::ClearingPrice;
-use values::Value;
 ghost use mathlib.Core.Path.{_≡_};
-ghost use Prim.Native.Nat.{_-_};
-ghost use Rattle.auction.specs.Settlement.{committed, mills};
-ghost use Rattle.settle.specs.Read.{optional, quoted};
+ghost use Prim.Native.Nat.{_-_, _≤_};
+ghost use lib.ListN.{length};
+ghost use Rattle.laws.specs.Filled.{filled};
+ghost use Rattle.laws.specs.Sum.{sumTo};
+ghost use Rattle.auction.specs.Settlement.{mills};
+ghost use Rattle.settle.specs.Read.{quoted};
+ghost use Rattle.settle.specs.Rows.{committedFrom, Committable, rowCommits, rowPast};
 
-// The cleared quantity, or the minimum block if that is larger and the cleared quantity is not 0.
-pub fn committed_of(block: Value, cleared: u32) -> u32
-    ensures { λ r. ⌜ r ≡ committed (optional block) cleared ⌝ }
+// The cleared quantity, or the least that the row commits if that is larger and the cleared quantity is not 0.
+fn committed_of(least: u32, cleared: u32) -> u32
+    ensures { λ r. ⌜ (r ≡ committedFrom least cleared) × (cleared ≤ r) ⌝ }
 {
-    let Value::Given(least) = block else {
-        return cleared;
-    };
     if cleared == 0 {
         return 0;
     }
     if cleared < least { least } else { cleared }
+}
+
+// Writes what each of n rows commits of what it clears, and returns the tenths committed past what cleared.
+pub fn commit(leasts: &[u32], cleared: &[u32], n: usize, out: &mut [u32]) -> u32
+    requires { ⌜ Committable (now leasts) (now cleared) n × (n ≤ length (now out)) ⌝ }
+    ensures { λ r. ⌜ now (out .exit) ≡ filled (rowCommits (now (leasts .entry)) (now (cleared .entry))) n (now (out .entry)) ⌝ }
+    ensures { λ r. ⌜ r ≡ sumTo (rowPast (now (leasts .entry)) (now (cleared .entry))) n ⌝ }
+{
+    let mut past: u32 = 0;
+    for row in 0..n {
+        let committed = committed_of(leasts[row], cleared[row]);
+        out[row] = committed;
+        past += committed - cleared[row];
+    }
+    past
 }
 
 // A price times tenths of a megawatt; nothing where there is no price.

@@ -9,7 +9,7 @@ ghost use Prim.Native.Nat.{_+_, _/_, _%_, _≤_, _<_};
 ghost use lib.ListN.{length};
 ghost use lib.Dec.{eqb};
 ghost use Rattle.block.specs.Bytes.{u32At};
-ghost use Rattle.values.specs.Values.{valueOf, held};
+ghost use Rattle.values.specs.Values.{valueOf, held, leastOf};
 
 // A value that the book can leave out. What is missing is no number.
 pub enum Value {
@@ -42,5 +42,16 @@ pub fn number_held(v: Value) -> u32
     match v {
         Value::Given(number) => number,
         Value::Missing => 4294967295,
+    }
+}
+
+// The least that an offer with this minimum block commits, once any of it clears: the block. A flexible offer commits what
+// clears, and the least that clears at all is one tenth.
+pub fn least_of(block: Value) -> u32
+    ensures { λ r. ⌜ r ≡ leastOf block ⌝ }
+{
+    match block {
+        Value::Given(tenths) => tenths,
+        Value::Missing => 1,
     }
 }

@@ -1,26 +1,29 @@
--- `values_fault` finds the first fault by 6 or 7, and keeps the resource numbers of the rows before it. The loop's invariant:
--- the rows passed had no such fault, and their resource numbers are kept.
+-- `values_fault` finds the first fault by 6 or 7, and reads the rows up to it into the columns. The loop's invariant: the rows
+-- passed had no such fault, and stand in the columns.
 -- Assumes nothing.
-use mathlib.Core.Path.{_≡_, sym, ap, _∙_}
+use mathlib.Core.Path.{_≡_, sym, _∙_}
 use Prim.Native.Nat.{_≤_, _-_}
 use native.Mathlib.Omega.{arith}
 use borrow.Author.Needs.{needs}
-use Rattle.values.specs.Place.{offerOf}
+use Rattle.laws.proofs.Filling.{length-filling, in-filling}
 use Rattle.values.specs.declared.Verdict.the-variants.{Passed}
-use Rattle.values.specs.declared.place.Offer.{Offer}
 use Rattle.limits.specs.Offers.{offerFault}
 use Rattle.layout.specs.Read.{bookOffer}
+use Rattle.columns.specs.Columns.{columnsOf}
+use Rattle.columns.proofs.Turns.{offer-of-row}
 use Rattle.book.specs.Rows.{ValuesRead}
 use Rattle.book.proofs.Values.{values-none, values-more, values-refused}
 use Rattle.book.proofs.rows.values_fault.Statement.{statement}
 use Rattle.book.proofs.rows.values_fault.Tie as tie
 
 abbrev Inv-loop : tie.InvT-loop
-Inv-loop book n needed resources₀ row₀ resources row =
-    (row ≤ n) × ValuesRead needed book row Passed resources₀ resources
+Inv-loop book n needed prices₀ quantities₀ leasts₀ resources₀ row₀ prices quantities leasts resources row =
+    (row ≤ n)
+    × ValuesRead needed book row Passed (columnsOf prices₀ quantities₀ leasts₀ resources₀)
+    (columnsOf prices quantities leasts resources)
 
 abbrev μ-loop : tie.MeasureT-loop
-μ-loop book n needed resources₀ row₀ resources row = n - row
+μ-loop book n needed prices₀ quantities₀ leasts₀ resources₀ row₀ prices quantities leasts resources row = n - row
 
 loop-holds : tie.Need-loop-holds Inv-loop μ-loop
 loop-holds c = (search needs, values-none _ _ _)
@@ -29,8 +32,7 @@ cast-at : tie.Need-cast-at Inv-loop μ-loop
 cast-at c = search needs
 
 row-of-requires : tie.Need-row-of-requires Inv-loop μ-loop
-row-of-requires c κs =
-    c .before .before .before .before .pre .0 .within (c .before .loop .row) (c .loop-test .taken)
+row-of-requires c κs = c .before .before .before .before .before .before .before .pre .0 .within (c .before .loop .row) (c .loop-test .taken)
 
 offer-in-requires : tie.Need-offer-in-requires Inv-loop μ-loop
 offer-in-requires c κs = search needs
@@ -38,41 +40,77 @@ offer-in-requires c κs = search needs
 -- the offer that was read is the book's own
 as-offer : (c : tie.After-offer-in Inv-loop μ-loop) →
     let at = c .before .before .before in
-    c .offer-in .result ≡ bookOffer (at .before .before .before .args .book .now) (at .loop .row)
-unfolding bookOffer
-as-offer c = c .offer-in .ensures ∙ ap offerOf (c .before .row-of .ensures .0)
+    c .offer-in .result ≡ bookOffer (at .before .before .before .before .before .before .args .book .now) (at .loop .row)
+as-offer c = offer-of-row _ _ (c .before .row-of .ensures .0) (c .offer-in .ensures)
+
+number-held-requires : tie.Need-number-held-requires Inv-loop μ-loop
+number-held-requires c κs = search needs
+
+mul-prices : tie.Need-mul-prices Inv-loop μ-loop
+mul-prices c = search needs
+
+slice-write-prices : tie.Need-slice-write-prices Inv-loop μ-loop
+slice-write-prices c = in-filling _ _ _ (c .before .before .before .before .loop .inv .1 .read .price) (omega arith)
+
+mul-quantities : tie.Need-mul-quantities Inv-loop μ-loop
+mul-quantities c = search needs
+
+slice-write-quantities : tie.Need-slice-write-quantities Inv-loop μ-loop
+slice-write-quantities c = in-filling _ _ _ (c .before .before .before .before .loop .inv .1 .read .quantity) (omega arith)
+
+least-of-requires : tie.Need-least-of-requires Inv-loop μ-loop
+least-of-requires c κs = search needs
+
+mul-leasts : tie.Need-mul-leasts Inv-loop μ-loop
+mul-leasts c = search needs
+
+slice-write-leasts : tie.Need-slice-write-leasts Inv-loop μ-loop
+slice-write-leasts c = in-filling _ _ _ (c .before .before .before .before .before .loop .inv .1 .read .least) (omega arith)
 
 mul-resources : tie.Need-mul-resources Inv-loop μ-loop
 mul-resources c = search needs
 
 slice-write-resources : tie.Need-slice-write-resources Inv-loop μ-loop
-slice-write-resources c = search needs
+slice-write-resources c = in-filling _ _ _ (c .before .before .before .before .before .loop .inv .1 .read .resource) (omega arith)
 
 offer-fault-requires : tie.Need-offer-fault-requires Inv-loop μ-loop
 offer-fault-requires c κs = search needs
 
 -- and its fault is that of the definition
 as-fault : (c : tie.After-offer-fault Inv-loop μ-loop) →
-    let at = c .before .before .before .before in
-    let start = at .before .before .before in
+    let at = c .before .before .before .before .before .before in
+    let start = at .before .before .before .before .before .before in
     c .offer-fault .result
     ≡ offerFault (start .args .needed) (bookOffer (start .args .book .now) (at .loop .row)) (at .loop .row)
-as-fault c = rw (as-offer (c .before)) at (c .offer-fault .ensures)
+as-fault c = rw (as-offer (c .before .before .before)) at (c .offer-fault .ensures)
 
 enum-known-number : tie.Need-enum-known-number Inv-loop μ-loop
 enum-known-number c = search needs
 
+-- the columns up to the row that is refused
+refused : tie.Need-returns Inv-loop μ-loop
+refused c =
+    let tested = c .before .before .before in
+    let at = tested .before .before .before .before .before .before in
+    values-refused _ _ _ (at .loop .inv .1) (as-offer (tested .before .before .before)) (tested .before .before .number-held .ensures)
+    (tested .before .least-of .ensures) _ _ _
+    (tested .before .before .before .before .before .loop-test .taken)
+    (sym (as-fault tested) ∙ c .before .number .given .1)
+
 same-length : tie.Need-same-length Inv-loop μ-loop
-same-length c = search needs
+same-length c = length-filling _ _ _ (refused c .read .price)
+
+same-length-2 : tie.Need-same-length-2 Inv-loop μ-loop
+same-length-2 c = length-filling _ _ _ (refused c .read .quantity)
+
+same-length-3 : tie.Need-same-length-3 Inv-loop μ-loop
+same-length-3 c = length-filling _ _ _ (refused c .read .least)
+
+same-length-4 : tie.Need-same-length-4 Inv-loop μ-loop
+same-length-4 c = length-filling _ _ _ (refused c .read .resource)
 
 returns : tie.Need-returns Inv-loop μ-loop
-returns c =
-    let tested = c .before .before .before in
-    let at = tested .before .before .before .before in
-    values-refused _ _ _ _ _ _ _
-    (at .loop .inv .1)
-    (tested .before .before .before .loop-test .taken)
-    (sym (as-fault tested) ∙ c .before .number .given .1)
+returns = refused
 
 enum-told : tie.Need-enum-told Inv-loop μ-loop
 enum-told c = search needs
@@ -86,22 +124,30 @@ loop-less c = search needs
 loop-again : tie.Need-loop-again Inv-loop μ-loop
 loop-again c =
     let tested = c .before .before in
-    let at = tested .before .before .before .before in (
+    let at = tested .before .before .before .before .before .before in (
       search needs,
-      values-more _ _ _ _
-          (at .loop .inv .1)
-          (search needs)
-          (ap (λ (o : Offer). o .resource) (as-offer (tested .before)))
+      values-more _ _ _ (at .loop .inv .1) (as-offer (tested .before .before .before))
+          (tested .before .before .number-held .ensures)
+          (tested .before .least-of .ensures)
           (sym (as-fault tested) ∙ c .enum-told .given .1),
     )
 
-same-length-2 : tie.Need-same-length-2 Inv-loop μ-loop
-same-length-2 c = search needs
+same-length-5 : tie.Need-same-length-5 Inv-loop μ-loop
+same-length-5 c = length-filling _ _ _ (c .before .loop .inv .1 .read .price)
+
+same-length-6 : tie.Need-same-length-6 Inv-loop μ-loop
+same-length-6 c = length-filling _ _ _ (c .before .loop .inv .1 .read .quantity)
+
+same-length-7 : tie.Need-same-length-7 Inv-loop μ-loop
+same-length-7 c = length-filling _ _ _ (c .before .loop .inv .1 .read .least)
+
+same-length-8 : tie.Need-same-length-8 Inv-loop μ-loop
+same-length-8 c = length-filling _ _ _ (c .before .loop .inv .1 .read .resource)
 
 returns-2 : tie.Need-returns-2 Inv-loop μ-loop
 returns-2 c =
     let at = c .before in
-    let all : at .loop .row ≡ at .before .before .before .args .n = omega arith in
+    let all : at .loop .row ≡ at .before .before .before .before .before .before .args .n = omega arith in
     rw all at (at .loop .inv .1)
 
 pub values-fault-spec : {M : Type 1} → statement M
@@ -114,15 +160,29 @@ values-fault-spec =
     cast-at
     row-of-requires
     offer-in-requires
+    number-held-requires
+    mul-prices
+    slice-write-prices
+    mul-quantities
+    slice-write-quantities
+    least-of-requires
+    mul-leasts
+    slice-write-leasts
     mul-resources
     slice-write-resources
     offer-fault-requires
     enum-known-number
     same-length
+    same-length-2
+    same-length-3
+    same-length-4
     returns
     enum-told
     add-row
     loop-less
     loop-again
-    same-length-2
+    same-length-5
+    same-length-6
+    same-length-7
+    same-length-8
     returns-2)

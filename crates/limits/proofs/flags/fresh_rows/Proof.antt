@@ -28,6 +28,9 @@ Inv-loop resources n met₀ row₀ met row =
 abbrev μ-loop : tie.MeasureT-loop
 μ-loop resources n met₀ row₀ met row = n - row
 
+returns : tie.Need-returns Inv-loop μ-loop
+returns c = (omega arith, every-zero _)
+
 loop-holds : tie.Need-loop-holds Inv-loop μ-loop
 loop-holds c = (search needs, search needs, every-zero _, flagged-none _ _ _)
 
@@ -40,14 +43,14 @@ shared-slice-read-number c = search needs
 mixed-requires : tie.Need-mixed-requires Inv-loop μ-loop
 mixed-requires c κs = search needs
 
-array-read-if1 : tie.Need-array-read-if1 Inv-loop μ-loop
-array-read-if1 c = search needs
+array-read-if2 : tie.Need-array-read-if2 Inv-loop μ-loop
+array-read-if2 c = search needs
 
 absent-requires : tie.Need-absent-requires Inv-loop μ-loop
 absent-requires c κs = search needs
 
-returns : tie.Need-returns Inv-loop μ-loop
-returns c = search needs
+returns-2 : tie.Need-returns-2 Inv-loop μ-loop
+returns-2 c = search needs
 
 array-write-met : tie.Need-array-write-met Inv-loop μ-loop
 array-write-met c = search needs
@@ -59,14 +62,14 @@ loop-less : tie.Need-loop-less Inv-loop μ-loop
 loop-less c = search needs
 
 -- the row's resource number stands in no earlier row, or its flag was not set
-row-fresh : (c : tie.Joined1 Inv-loop μ-loop)
+row-fresh : (c : tie.Joined2 Inv-loop μ-loop)
     → let head = c .before .before .before .before in
-    fresh (λ r. getD (head .before .before .args .resources .now) r 0) (head .loop .row) ≡ true
+    fresh (λ r. getD (head .before .before .before .args .resources .now) r 0) (head .loop .row) ≡ true
 row-fresh c =
     ⊎-elim
     (λ w. sym (w .1 .ensures) ∙ not-false _ (w .2 .left))
     (λ w. unmet-fresh _ _ _ _ _ (c .before .mixed .ensures .0) (c .before .before .before .before .loop .inv .3) (w .left))
-    (c .if1 .came)
+    (c .if2 .came)
 
 loop-again : tie.Need-loop-again Inv-loop μ-loop
 loop-again c =
@@ -77,8 +80,8 @@ loop-again c =
       flagged-more _ _ _ _ _ (omega arith) (c .before .mixed .ensures .0) (inv .3),
     )
 
-returns-2 : tie.Need-returns-2 Inv-loop μ-loop
-returns-2 c = (omega arith, ap (every _) (omega arith) ∙ c .before .loop .inv .2)
+returns-3 : tie.Need-returns-3 Inv-loop μ-loop
+returns-3 c = (omega arith, ap (every _) (omega arith) ∙ c .before .loop .inv .2)
 
 pub fresh-rows-spec : {M : Type 1} → statement M
 fresh-rows-spec =
@@ -86,15 +89,16 @@ fresh-rows-spec =
     (tie.spec
     Inv-loop
     μ-loop
+    returns
     loop-holds
     mul-number
     shared-slice-read-number
     mixed-requires
-    array-read-if1
+    array-read-if2
     absent-requires
-    returns
+    returns-2
     array-write-met
     add-row
     loop-less
     loop-again
-    returns-2)
+    returns-3)
