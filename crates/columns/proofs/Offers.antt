@@ -7,9 +7,10 @@ use Prim.Native.Nat.{ℕ, _+_, _*_, _≤_, _<_}
 use native.Mathlib.Omega.{arith}
 use lib.ListN.{getD}
 use lib.Dec.{ltb}
-use Rattle.laws.proofs.Filling.{zeros, filled-zeros}
+use Rattle.laws.proofs.Filling.{zeros, length-zeros, filled-zeros}
+use Rattle.laws.proofs.Fills.{getD-filled}
 use Rattle.layout.specs.Read.{bookOffer}
-use Rattle.columns.specs.Column.{highOf, lowOf, Column}
+use Rattle.columns.specs.Column.{highOf, lowOf, lowsOf, Column}
 
 module _ (b : List ℕ) (row : ℕ) where
   -- the two halves make the stamp
@@ -23,6 +24,11 @@ module _ (b : List ℕ) (row : ℕ) where
   -- and so has the lower half of any
   pub low-small : lowOf b row < 4294967296
   low-small = omega arith
+
+-- in a column of them too
+pub lows-small : (b : List ℕ) (n : ℕ) → n ≤ 600 → (i : ℕ) → i < n → getD (lowsOf b n) i 0 < 4294967296
+lows-small b n few i h =
+    omega (arith, getD-filled (lowOf b) n (zeros 600) i 0 (omega (arith, length-zeros 600)) h, low-small b i)
 
 -- a column that began as 600 zeros reads as the value of each row, and as 0 past the last
 pub getD-column : (value : ℕ → ℕ) (n : ℕ) {after : List ℕ} → n ≤ 600 → Column value n (zeros 600) after

@@ -1,5 +1,6 @@
 // The spare tenths of the level at which a total stops: one each to the first in the order.
 use crate::share::exact;
+use columns::read_stamps;
 use market::margin::Level;
 use spares::award;
 ghost use mathlib.Core.Path.{_≡_};
@@ -9,6 +10,8 @@ ghost use lib.ListN.{length, getD};
 ghost use lib.Dec.{eqb};
 ghost use Rattle.laws.specs.Filled.{filled};
 ghost use Rattle.auction.specs.Shares.{cleared};
+ghost use Rattle.layout.specs.Read.{Inside};
+ghost use Rattle.columns.specs.Column.{highsOf, lowsOf};
 ghost use Rattle.market.specs.Rows.{rowsOf};
 ghost use Rattle.shares.specs.Parts.{partOf, keyOf, rowKey, rowStanding};
 ghost use Rattle.shares.specs.Steps.{Divides, DividesRows, HoldsParts, Parted, Adds};
@@ -65,24 +68,27 @@ fn add(tenths: &[u32], n: usize, out: &mut [u32])
     }
 }
 
-// Gives the level's spare tenths, one each to the first in the order.
+// Gives the level's spare tenths, one each to the first in the order. Only here are the time stamps read.
 pub fn give(
+    book: &[u8],
     prices: &[u32],
     quantities: &[u32],
-    highs: &[u32],
-    lows: &[u32],
     resources: &[u32],
     n: usize,
     level: Level,
     spare: u32,
     out: &mut [u32],
 )
-    requires { ⌜ Parted (now prices) (now quantities) (now highs) (now lows) (now resources) n level spare (now out) ⌝ }
-    ensures { λ _. ⌜ now (out .exit) ≡ filled (cleared (rowsOf (now (prices .entry)) (now (quantities .entry)) (now (highs .entry)) (now (lows .entry)) (now (resources .entry)) n) (level .total)) n (now (out .entry)) ⌝ }
+    requires { ⌜ Inside (now book) n ⌝ }
+    requires { ⌜ Parted (now prices) (now quantities) (highsOf (now book) n) (lowsOf (now book) n) (now resources) n level spare (now out) ⌝ }
+    ensures { λ _. ⌜ now (out .exit) ≡ filled (cleared (rowsOf (now (prices .entry)) (now (quantities .entry)) (highsOf (now (book .entry)) n) (lowsOf (now (book .entry)) n) (now (resources .entry)) n) (level .total)) n (now (out .entry)) ⌝ }
 {
+    let mut highs = [0u32; 600];
+    let mut lows = [0u32; 600];
     let mut keys = [0u32; 600];
     let mut standings = [0u32; 600];
+    read_stamps(book, n, &mut highs, &mut lows);
     line_up(prices, quantities, out, n, level, &mut keys, &mut standings);
-    award(&keys, highs, lows, resources, &mut standings, n, spare);
+    award(&keys, &highs, &lows, resources, &mut standings, n, spare);
     add(&standings, n, out);
 }

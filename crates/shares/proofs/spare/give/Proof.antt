@@ -1,6 +1,6 @@
 -- `shares::spare::give` gives the spare tenths: the contest by the keys that `line_up` writes is the order of spare tenths.
 -- Assumes nothing.
-use mathlib.Core.Path.{_≡_}
+use mathlib.Core.Path.{_≡_, subst₂}
 use mathlib.Core.Bool.{Bool, cond}
 use mathlib.Core.List.{List}
 use Prim.Native.Nat.{ℕ, _<_}
@@ -10,10 +10,22 @@ use lib.Dec.{eqb}
 use borrow.Author.Needs.{needs}
 use Rattle.laws.proofs.Filling.{length-filling}
 use Rattle.laws.proofs.FilledRows.{filled-row}
+use Rattle.columns.specs.Column.{highsOf, lowsOf}
+use Rattle.columns.proofs.Offers.{lows-small}
+use Rattle.spares.specs.Award.{Awarded}
 use Rattle.shares.specs.Parts.{rowKey}
 use Rattle.shares.proofs.Tenths.{standing-most, won-adds, won-cleared}
 use Rattle.shares.proofs.spare.give.Statement.{statement}
 use Rattle.shares.proofs.spare.give.Tie as tie
+
+slice-aggregate-read-stamps : tie.Need-slice-aggregate-read-stamps
+slice-aggregate-read-stamps c = search needs
+
+slice-aggregate-read-stamps-2 : tie.Need-slice-aggregate-read-stamps-2
+slice-aggregate-read-stamps-2 c = search needs
+
+read-stamps-requires : tie.Need-read-stamps-requires
+read-stamps-requires c κs = search needs
 
 slice-aggregate-line-up : tie.Need-slice-aggregate-line-up
 slice-aggregate-line-up c = search needs
@@ -30,9 +42,18 @@ slice-aggregate-award c = search needs
 slice-aggregate-award-2 : tie.Need-slice-aggregate-award-2
 slice-aggregate-award-2 c = search needs
 
--- the function's entry, from where the rows are lined up
+slice-aggregate-award-3 : tie.Need-slice-aggregate-award-3
+slice-aggregate-award-3 c = search needs
+
+slice-aggregate-award-4 : tie.Need-slice-aggregate-award-4
+slice-aggregate-award-4 c = search needs
+
+-- the function's entry, and where the stamps are read, from where the rows are lined up
 abbrev entry : tie.After-line-up → tie.Start
-entry c = c .before .before .before .before .before .before .before .before .before .before
+entry c = c .before .before .before .before .before .before .before .before .before .before .before .before .before .before
+
+abbrev read : tie.After-line-up → tie.After-read-stamps
+read c = c .before .before .before .before .before .before
 
 -- the lists that the calls leave behind
 abbrev keys : tie.After-line-up → List ℕ
@@ -59,17 +80,27 @@ stands c = filled-row _ _ _ (c .line-up .ensures .1) (search needs)
 
 award-requires : tie.Need-award-requires
 award-requires c κs =
-    let up = c .before .before .before .before in
-    let p = entry up .pre in
+    let up = c .before .before .before .before .before .before in
+    let p = entry up .pre .1 in
     record {
       first = omega (arith, length-filling _ _ _ (up .line-up .ensures .0), p .divides .rows .few);
-      second = p .ordered .highs-long;
-      third = p .ordered .lows-long;
+      second = omega (arith, length-filling _ _ _ (read up .read-stamps .ensures .0), p .divides .rows .few);
+      third = omega (arith, length-filling _ _ _ (read up .read-stamps .ensures .1), p .divides .rows .few);
       fourth = p .ordered .resources-long;
       standing = omega (arith, length-filling _ _ _ (up .line-up .ensures .1), p .divides .rows .few);
       few = p .divides .rows .few;
-      fresh = λ i h. standing-most (atLevel up i) _ (stands up i h);
+      fresh = λ i h. standing-most (atLevel up i) (getD (standings up) i 0) (stands up i h);
     }
+
+-- the contest is by the stamps of the book's rows
+awarded : (c : tie.After-award) → let up = c .before .before .before .before .before .before .before in let a = entry up .args in
+    Awarded (keys up) (highsOf (a .book .now) (a .n)) (lowsOf (a .book .now) (a .n)) (a .resources .now) (standings up) (a .n)
+    (a .spare) (tenths c)
+awarded c =
+    let up = c .before .before .before .before .before .before .before in
+    let a = entry up .args in
+    subst₂ (λ (highs lows : List ℕ). Awarded (keys up) highs lows (a .resources .now) (standings up) (a .n) (a .spare) (tenths c))
+    (read up .read-stamps .ensures .0) (read up .read-stamps .ensures .1) (c .award .ensures)
 
 slice-aggregate-add : tie.Need-slice-aggregate-add
 slice-aggregate-add c = search needs
@@ -77,8 +108,8 @@ slice-aggregate-add c = search needs
 add-requires : tie.Need-add-requires
 add-requires c κs =
     let won = c .before .before .before in
-    let up = won .before .before .before .before .before in
-    won-adds _ _ _ _ _ _ _ _ _ (entry up .pre) (keys up) (standings up) (tenths won) (won .award .ensures)
+    let up = won .before .before .before .before .before .before .before in
+    won-adds _ _ _ _ _ _ _ _ _ (entry up .pre .1) (keys up) (standings up) (tenths won) (awarded won)
     (omega (arith, won .award .ensures .rows, award-requires (won .before) (won .award .lifetimes) .standing))
 
 same-length : tie.Need-same-length
@@ -87,10 +118,11 @@ same-length c = search needs
 returns : tie.Need-returns
 returns c =
     let won = c .before .before .before .before .before .before in
-    let up = won .before .before .before .before .before in
-    won-cleared _ _ _ _ _ _ _ _ _ (entry up .pre) (keys up) (standings up) (tenths won) (won .award .ensures)
+    let up = won .before .before .before .before .before .before .before in
+    let p = entry up .pre .1 in
+    won-cleared _ _ _ _ _ _ _ _ _ p (keys up) (standings up) (tenths won) (awarded won)
     (c .before .before .add .last .1 .1 .0)
-    (λ i h. omega (arith, up .before .before .before .before .before .before .shared-slice-known4 .given i))
+    (lows-small _ _ (p .divides .rows .few))
     (keyed up)
     (stands up)
     (c .before .before .add .ensures)
@@ -99,11 +131,16 @@ pub give-spec : {M : Type 1} → statement M
 give-spec =
     tie.close
     (tie.spec
+    slice-aggregate-read-stamps
+    slice-aggregate-read-stamps-2
+    read-stamps-requires
     slice-aggregate-line-up
     slice-aggregate-line-up-2
     line-up-requires
     slice-aggregate-award
     slice-aggregate-award-2
+    slice-aggregate-award-3
+    slice-aggregate-award-4
     award-requires
     slice-aggregate-add
     add-requires
