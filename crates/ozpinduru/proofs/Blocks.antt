@@ -15,9 +15,9 @@ use Rattle.values.specs.declared.place.Offer.{Offer}
 use Rattle.market.specs.Price.{asPrice}
 use Rattle.layout.specs.Form.{offerCount}
 use Rattle.layout.specs.Read.{bookParameters, bookOffer}
-use Rattle.ozpinduru.specs.Auction.{ofRow, offersOf, total, price, rowCleared}
+use Rattle.sale.specs.Auction.{ofRow, offersOf, total, price, rowCleared}
 use Rattle.ozpinduru.specs.Answer.{Outcome, clearingOf}
-use Rattle.ozpinduru.specs.declared.Clearing.{Clearing}
+use Rattle.sale.specs.declared.Clearing.{Clearing}
 use Rattle.ozpinduru.specs.declared.Answer.the-variants.{Cleared as Answer·Cleared}
 use Rattle.ozpinduru.proofs.Outcomes.{cleared-clearing, cleared-row}
 

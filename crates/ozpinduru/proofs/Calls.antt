@@ -22,11 +22,11 @@ use Rattle.settle.specs.Read.{optional}
 use Rattle.layout.specs.Form.{offerCount}
 use Rattle.layout.specs.Read.{bookParameters, bookOffer}
 use Rattle.book.specs.Faults.{firstFault}
-use Rattle.ozpinduru.specs.Auction.{rowCleared, rowCommitted}
-use Rattle.ozpinduru.specs.Sale.{Clearable}
-use Rattle.ozpinduru.specs.Payment.{commitmentOf, ClearedAs}
+use Rattle.sale.specs.Auction.{rowCleared, rowCommitted}
+use Rattle.sale.specs.Sale.{Clearable}
+use Rattle.sale.specs.Payment.{commitmentOf, ClearedAs}
 use Rattle.ozpinduru.specs.Answer.{Outcome, ClearedInto, answerOf, answerBy, bufferBy, bufferFault, callFault, clearingOf}
-use Rattle.ozpinduru.specs.declared.Clearing.{Clearing}
+use Rattle.sale.specs.declared.Clearing.{Clearing}
 use Rattle.ozpinduru.specs.declared.Answer.the-variants.{Cleared as Answer·Cleared, Refused as Answer·Refused}
 use Rattle.ozpinduru.proofs.Clearables.{accepted-clearable}
 

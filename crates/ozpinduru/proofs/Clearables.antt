@@ -17,8 +17,8 @@ use Rattle.layout.specs.Form.{offerCount}
 use Rattle.layout.specs.Read.{bookParameters}
 use Rattle.book.specs.Faults.{firstFault}
 use Rattle.book.proofs.Accepted.{accepted-inside, accepted-in-range, accepted-priced, accepted-distinct}
-use Rattle.ozpinduru.specs.Auction.{termsOf}
-use Rattle.ozpinduru.specs.Sale.{Clearable}
+use Rattle.sale.specs.Auction.{termsOf}
+use Rattle.sale.specs.Sale.{Clearable}
 
 pub terms-in-range : (p : Parameters) → Ranged p → InRange (termsOf p)
 terms-in-range p r =

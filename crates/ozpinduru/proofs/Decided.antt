@@ -5,10 +5,10 @@ use mathlib.Core.List.{List}
 use Prim.Native.Nat.{ℕ}
 use Rattle.values.specs.declared.head.Parameters.{Parameters}
 use Rattle.ozpinduru.specs.Answer.{Outcome}
-use Rattle.ozpinduru.specs.Payment.{ClearedAs}
-use Rattle.ozpinduru.specs.Sale.{SoldAs}
+use Rattle.sale.specs.Payment.{ClearedAs}
+use Rattle.sale.specs.Sale.{SoldAs}
 use Rattle.ozpinduru.specs.declared.Answer.{Answer}
-use Rattle.ozpinduru.specs.declared.Clearing.{Clearing}
+use Rattle.sale.specs.declared.Clearing.{Clearing}
 use Rattle.ozpinduru.specs.declared.sale.Sale.{Sale}
 
 -- two things that are each the same third are the same

@@ -12,7 +12,7 @@ use Rattle.market.specs.declared.price.ClearingPrice.{ClearingPrice}
 use Rattle.market.specs.declared.price.ClearingPrice.the-variants.{Price, NoPrice}
 use Rattle.settle.specs.Read.{quoted}
 use Rattle.ozpinduru.specs.Export.{clearingKind, clearingCents, exported, exportedMakeWhole, Returned}
-use Rattle.ozpinduru.specs.declared.Clearing.{Clearing}
+use Rattle.sale.specs.declared.Clearing.{Clearing}
 use Rattle.ozpinduru.specs.declared.Answer.{Answer}
 use Rattle.ozpinduru.specs.declared.Answer.the-variants.{Cleared as Answer·Cleared, Refused as Answer·Refused}
 use Rattle.ozpinduru.specs.declared.export.OzpAnswer.{OzpAnswer}

@@ -27,7 +27,7 @@ use Rattle.curve.specs.declared.Terms.{Terms}
 use Rattle.layout.specs.Form.{offerCount, formFault, rowPart}
 use Rattle.layout.specs.Read.{bookOffer}
 use Rattle.layout.proofs.Handed.{row-part-refused, row-part-past, row-part-there, row-part-length}
-use Rattle.ozpinduru.specs.Auction.{termsOf}
+use Rattle.sale.specs.Auction.{termsOf}
 use Rattle.ozpinduru.specs.Export.{rowOf, noRow, exportedRow, exportedMakeWhole, noAmount}
 use Rattle.ozpinduru.specs.Plotted.{allGiven, pointsOf, pointsRefused, exportedCurve, priceOf, priceRefused, exportedPrice}
 use Rattle.ozpinduru.proofs.Clearables.{terms-in-range}

@@ -13,9 +13,9 @@ use Rattle.values.specs.declared.Verdict.the-variants.{Passed, Refused}
 use Rattle.layout.specs.Form.{offerCount}
 use Rattle.layout.specs.Read.{bookParameters}
 use Rattle.book.specs.Faults.{firstFault}
-use Rattle.ozpinduru.specs.Auction.{rowCleared, rowCommitted}
+use Rattle.sale.specs.Auction.{rowCleared, rowCommitted}
 use Rattle.ozpinduru.specs.Answer.{Outcome, answerBy, bufferBy, callFault, clearingOf}
-use Rattle.ozpinduru.specs.declared.Clearing.{Clearing}
+use Rattle.sale.specs.declared.Clearing.{Clearing}
 use Rattle.ozpinduru.specs.declared.Answer.{Answer}
 use Rattle.ozpinduru.specs.declared.Answer.the-variants.{Cleared as Answer·Cleared, Refused as Answer·Refused}
 use Rattle.ozpinduru.proofs.Calls.{Callable, passed-callable}

@@ -14,8 +14,8 @@ use Rattle.market.specs.Price.{asPrice}
 use Rattle.layout.specs.Form.{offerCount}
 use Rattle.layout.specs.Read.{bookParameters}
 use Rattle.book.specs.Faults.{firstFault}
-use Rattle.ozpinduru.specs.Auction.{total, price, rowCleared, rowCommitted, allMakeWhole, dailyTotal, yearTotal}
-use Rattle.ozpinduru.specs.declared.Clearing.{Clearing}
+use Rattle.sale.specs.Auction.{total, price, rowCleared, rowCommitted, allMakeWhole, dailyTotal, yearTotal}
+use Rattle.sale.specs.declared.Clearing.{Clearing}
 use Rattle.ozpinduru.specs.declared.Answer.{Answer}
 use Rattle.ozpinduru.specs.declared.Answer.the-variants.{Cleared as Answer·Cleared, Refused as Answer·Refused}
 

@@ -13,7 +13,7 @@ use Rattle.curve.specs.Price.{curvePrice}
 use Rattle.curve.specs.declared.Curve.{Curve}
 use Rattle.curve.specs.declared.CurvePrice.{CurvePrice}
 use Rattle.curve.specs.declared.CurvePrice.the-variants.{Price, NoPrice}
-use Rattle.ozpinduru.specs.Auction.{termsOf}
+use Rattle.sale.specs.Auction.{termsOf}
 use Rattle.ozpinduru.specs.Export.{noValue}
 use Rattle.ozpinduru.specs.declared.export.OzpCurve.{OzpCurve}
 use Rattle.ozpinduru.specs.declared.export.OzpPrice.{OzpPrice}

@@ -16,7 +16,7 @@ ghost use Rattle.values.specs.declared.Verdict.the-variants.{Passed};
 ghost use Rattle.layout.specs.Form.{offerCount};
 ghost use Rattle.layout.specs.Read.{bookParameters};
 ghost use Rattle.book.specs.Faults.{firstFault};
-ghost use Rattle.ozpinduru.specs.Payment.{ClearedAs};
+ghost use Rattle.sale.specs.Payment.{ClearedAs};
 ghost use Rattle.ozpinduru.specs.Answer.{Outcome, ClearedInto, answerOf, callFault};
 
 // The first fault of a call with result buffers of these lengths: the book's own, then 9 at the buffer that is too short.

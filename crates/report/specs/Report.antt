@@ -11,8 +11,8 @@ use Rattle.settle.specs.Read.{quoted}
 use Rattle.layout.specs.Form.{offerCount}
 use Rattle.layout.specs.Read.{bookParameters, bookOffer}
 use Rattle.book.specs.Faults.{firstFault}
-use Rattle.ozpinduru.specs.Auction.{total, price, rowCleared, rowCommitted, rowMakeWhole, dailyTotal, yearTotal}
-use Rattle.ozpinduru.specs.declared.Clearing.{Clearing}
+use Rattle.sale.specs.Auction.{total, price, rowCleared, rowCommitted, rowMakeWhole, dailyTotal, yearTotal}
+use Rattle.sale.specs.declared.Clearing.{Clearing}
 use Rattle.report.specs.Lines.{clearedWord, dailyWord, yearWord, lineText, priceText, refusalText, rowText, rowsText}
 
 -- a row's line, with what it clears and commits in two lists

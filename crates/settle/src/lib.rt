@@ -23,7 +23,7 @@ fn committed_of(least: u32, cleared: u32) -> u32
 pub fn commit(leasts: &[u32], cleared: &[u32], n: usize, out: &mut [u32]) -> u32
     requires { ⌜ Committable (now leasts) (now cleared) n × (n ≤ length (now out)) ⌝ }
     ensures { λ r. ⌜ now (out .exit) ≡ filled (rowCommits (now (leasts .entry)) (now (cleared .entry))) n (now (out .entry)) ⌝ }
-    ensures { λ r. ⌜ r ≡ sumTo (rowPast (now (leasts .entry)) (now (cleared .entry))) n ⌝ }
+    ensures { λ r. ⌜ (r ≡ sumTo (rowPast (now (leasts .entry)) (now (cleared .entry))) n) × (r ≤ 120000000) ⌝ }
 {
     let mut past: u32 = 0;
     for row in 0..n {

@@ -89,7 +89,11 @@ same-length : tie.Need-same-length Inv-loop μ-loop
 same-length c = length-filling _ _ _ (c .before .loop .inv .1)
 
 returns : tie.Need-returns Inv-loop μ-loop
-returns c = (filled-all _ _ (c .before .loop .inv .1) (omega arith), c .before .loop .inv .2 ∙ ap (sumTo _) (omega arith))
+returns c =
+    let at = c .before in (
+      filled-all _ _ (at .loop .inv .1) (omega arith),
+      (at .loop .inv .2 ∙ ap (sumTo _) (omega arith), omega (arith, at .before .before .before .before .pre .0 .few)),
+    )
 
 pub commit-spec : {M : Type 1} → statement M
 commit-spec =

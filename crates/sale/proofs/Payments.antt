@@ -4,16 +4,17 @@
 use mathlib.Core.Path.{_≡_, refl, ap, ap₂, sym, _∙_}
 use mathlib.Core.List.{List}
 use mathlib.Core.Option.{Option, none, some}
-use Prim.Native.Nat.{ℕ, _+_, _*_, _≤_, _<_}
+use Prim.Native.Nat.{ℕ, _+_, _-_, _*_, _≤_, _<_}
 use native.Mathlib.Nat.{le-refl, mul-le-mul}
 use native.Mathlib.Omega.{arith}
 use lib.ListN.{length, getD}
 use Rattle.laws.specs.Sum.{sumTo}
 use Rattle.laws.specs.Filled.{filled}
 use Rattle.laws.proofs.Sums.{sumTo-ext}
-use Rattle.laws.proofs.Fills.{length-filled, getD-filled}
+use Rattle.laws.proofs.Filling.{length-filling}
+use Rattle.laws.proofs.FilledRows.{filled-row}
 use Rattle.auction.specs.Clearing.{clearedTotal}
-use Rattle.auction.specs.Settlement.{committed, mills, makeWhole, daysOf}
+use Rattle.auction.specs.Settlement.{mills, daysOf}
 use Rattle.auction.proofs.Total.{total-is-largest}
 use Rattle.auction.proofs.Price.{price-margin}
 use Rattle.auction.proofs.ShareLaws.{share-within}
@@ -24,23 +25,25 @@ use Rattle.curve.proofs.Prices.{price-most}
 use Rattle.market.specs.Price.{asPrice}
 use Rattle.market.specs.declared.price.ClearingPrice.{ClearingPrice}
 use Rattle.settle.specs.Read.{optional, quoted}
+use Rattle.settle.specs.Rows.{committedFrom, rowCommits, rowPast, Committable}
+use Rattle.settle.proofs.Commits.{committed-from, mills-sum}
+use Rattle.columns.specs.Column.{leastsOf}
 use Rattle.layout.specs.Form.{offerCount}
 use Rattle.layout.specs.Read.{bookOffer}
-use Rattle.ozpinduru.specs.Auction.{termsOf, offersOf, demand, total, price, rowCleared, rowMakeWhole, allMakeWhole, dailyTotal, yearTotal}
-use Rattle.ozpinduru.specs.Sale.{Clearable}
-use Rattle.ozpinduru.specs.Payment.{wholeOf, Payable}
-use Rattle.ozpinduru.specs.Answer.{clearingOf}
-use Rattle.ozpinduru.proofs.Ground.{ofRow-there, clearable-shaped, clearable-falls, clearable-proper}
+use Rattle.sale.specs.Auction.{termsOf, offersOf, demand, total, price, rowCleared, rowCommitted, rowMakeWhole, allMakeWhole, dailyTotal, yearTotal}
+use Rattle.sale.specs.Sale.{Clearable}
+use Rattle.sale.specs.Payment.{clearingOf}
+use Rattle.sale.proofs.Ground.{ofRow-there, clearable-shaped, clearable-falls, clearable-proper}
 
 -- a price that is said as the code says it is quoted again
 pub quoted-asPrice : (x : Option ℕ) → quoted (asPrice x) ≡ x
 quoted-asPrice none = refl
 quoted-asPrice (some p) = refl
 
--- a price of at most 958,904 on at most 2,200,000 tenths
-mills-bound : (x : Option ℕ) (t : ℕ) → ((cents : ℕ) → x ≡ some cents → cents ≤ 958904) → t ≤ 2200000 → mills x t ≤ 2109588800000
-mills-bound none t h l = omega arith
-mills-bound (some cents) t h l = mul-le-mul (h cents refl) l
+-- a price of at most 958,904 on so many tenths at most
+mills-bound : (x : Option ℕ) (t most : ℕ) → ((cents : ℕ) → x ≡ some cents → cents ≤ 958904) → t ≤ most → mills x t ≤ 958904 * most
+mills-bound none t most h l = omega arith
+mills-bound (some cents) t most h l = mul-le-mul (h cents refl) l
 
 module _ (b : List ℕ) (p : Parameters) (n : ℕ) (ok : Clearable b p n) where
   pub price-bound : (cents : ℕ) → price b p ≡ some cents → cents ≤ 958904
@@ -60,35 +63,52 @@ module _ (b : List ℕ) (p : Parameters) (n : ℕ) (ok : Clearable b p n) where
       let here : row < offerCount b = rw (ok .rows) at l in
       omega (arith, share-within (offersOf b) (total b p) (clearable-proper b p n ok) row here, ofRow-there b (λ r. bookOffer b r .quantity) row here)
 
-  -- no row commits more than 200,000 tenths of what it clears
-  pub cleared-payable : (before after : List ℕ) → n ≤ length before → after ≡ filled (rowCleared b p) n before → Payable b n after
-  cleared-payable before after long e =
-      record {
-        inside = ok .inside;
-        long = omega (arith, ap length e, length-filled (rowCleared b p) n before);
-        modest = λ row l. rw (cleared-row row l) (omega (arith, committed-most (optional (bookOffer b row .block)) (rowCleared b p row) (bookOffer b row .quantity) (ok .blocks row l) (row-within row l), ok .small row l));
-      }
-    where
-      cleared-row : (row : ℕ) → row < n → getD after row 0 ≡ rowCleared b p row
-      cleared-row row l = ap (λ (xs : List ℕ). getD xs row 0) e ∙ getD-filled (rowCleared b p) n before row 0 long l
+  -- what each row commits, from the least that it commits and what it clears
+  module _ (leasts : List ℕ) (least : (row : ℕ) → row < n → getD leasts row 0 ≡ leastsOf b row) (before after : List ℕ)
+      (long : n ≤ length before) (e : after ≡ filled (rowCleared b p) n before) where
+    cleared-row : (row : ℕ) → row < n → getD after row 0 ≡ rowCleared b p row
+    cleared-row row l = filled-row (rowCleared b p) n before e long row l
 
-  -- what the rows are paid past what they clear
-  pub whole-paid : (q : ClearingPrice) (before after : List ℕ) → n ≤ length before → q ≡ asPrice (price b p)
-      → after ≡ filled (rowCleared b p) n before
-      → wholeOf b (quoted q) (λ i. getD after i 0) n ≡ allMakeWhole b p
-  unfolding allMakeWhole rowMakeWhole
-  whole-paid q before after long f e =
-      sumTo-ext _ (rowMakeWhole b p) n
-      (λ row l. ap₂ (λ (x : Option ℕ) (c : ℕ). makeWhole x (optional (bookOffer b row .block)) c)
-      (ap quoted f ∙ quoted-asPrice (price b p))
-      (ap (λ (xs : List ℕ). getD xs row 0) e ∙ getD-filled (rowCleared b p) n before row 0 long l))
-      ∙ ap (sumTo (rowMakeWhole b p)) (ok .rows)
+    pub row-commits : (row : ℕ) → row < n → rowCommits leasts after row ≡ rowCommitted b p row
+    unfolding rowCommitted
+    row-commits row l =
+        ap₂ committedFrom (least row l) (cleared-row row l) ∙ sym (committed-from (bookOffer b row .block) (rowCleared b p row))
+
+    -- none commits more than 200,000 tenths
+    pub cleared-committable : n ≤ length leasts → Committable leasts after n
+    unfolding rowCommitted
+    cleared-committable room =
+        record {
+          leasts-long = room;
+          cleared-long = omega (arith, length-filling (rowCleared b p) n before e);
+          few = ok .inside .few;
+          modest = λ row l.
+              omega (
+                arith,
+                row-commits row l,
+                committed-most (optional (bookOffer b row .block)) (rowCleared b p row) (bookOffer b row .quantity) (ok .blocks row l) (row-within row l),
+                ok .small row l,
+              );
+        }
+
+    -- what the rows are paid past what they clear
+    pub whole-paid : (q : ClearingPrice) → q ≡ asPrice (price b p) → mills (quoted q) (sumTo (rowPast leasts after) n) ≡ allMakeWhole b p
+    unfolding allMakeWhole rowMakeWhole rowCommitted
+    whole-paid q f =
+        sym (mills-sum (quoted q) (rowPast leasts after) n)
+        ∙ sumTo-ext _ (rowMakeWhole b p) n
+        (λ row l. ap₂ mills (ap quoted f ∙ quoted-asPrice (price b p)) (ap₂ _-_ (row-commits row l) (cleared-row row l)))
+        ∙ ap (sumTo (rowMakeWhole b p)) (ok .rows)
 
   pub price-quoted : (q : ClearingPrice) → q ≡ asPrice (price b p) → (cents : ℕ) → quoted q ≡ some cents → cents ≤ 958904
   price-quoted q f cents e = price-bound cents (sym (ap quoted f ∙ quoted-asPrice (price b p)) ∙ e)
 
+  -- the price on what cleared, and on what is committed past it
   pub mills-most : (q : ClearingPrice) (x : ℕ) → q ≡ asPrice (price b p) → x ≡ total b p → mills (quoted q) x ≤ 2109588800000
-  mills-most q x f e = mills-bound (quoted q) x (price-quoted q f) (omega (arith, total-bound))
+  mills-most q x f e = mills-bound (quoted q) x 2200000 (price-quoted q f) (omega (arith, total-bound))
+
+  pub whole-most : (q : ClearingPrice) (past : ℕ) → q ≡ asPrice (price b p) → past ≤ 120000000 → mills (quoted q) past ≤ 115068480000000
+  whole-most q past f l = mills-bound (quoted q) past 120000000 (price-quoted q f) l
 
   -- a total, a price and make-whole that are the book's make up the book's clearing
   pub clearing-is : (x : ℕ) (q : ClearingPrice) (whole daily year days : ℕ) → x ≡ total b p → q ≡ asPrice (price b p)

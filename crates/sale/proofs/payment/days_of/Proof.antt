@@ -4,8 +4,8 @@ use mathlib.Core.Path.{refl}
 use Rattle.auction.specs.Settlement.{daysOf}
 use native.Mathlib.Omega.{arith}
 use borrow.Author.Needs.{needs}
-use Rattle.ozpinduru.proofs.payment.days_of.Statement.{statement}
-use Rattle.ozpinduru.proofs.payment.days_of.Tie as tie
+use Rattle.sale.proofs.payment.days_of.Statement.{statement}
+use Rattle.sale.proofs.payment.days_of.Tie as tie
 
 returns : tie.Need-returns
 unfolding daysOf

@@ -1,10 +1,11 @@
--- `sell_columns` sells the rows of five columns on a curve.
+-- `sell` sells the rows of columns on a curve.
 -- Assumes nothing.
-use Rattle.ozpinduru.proofs.SaleLaws.{stops-own, sold-columns}
+use Rattle.columns.specs.Column.{highsOf, lowsOf}
+use Rattle.sale.proofs.SaleLaws.{stops-own, sold-columns}
 use native.Mathlib.Omega.{arith}
 use borrow.Author.Needs.{needs}
-use Rattle.ozpinduru.proofs.sale.sell_columns.Statement.{statement}
-use Rattle.ozpinduru.proofs.sale.sell_columns.Tie as tie
+use Rattle.sale.proofs.sell.sell.Statement.{statement}
+use Rattle.sale.proofs.sell.sell.Tie as tie
 
 cleared-total-requires : tie.Need-cleared-total-requires
 cleared-total-requires c κs = search needs
@@ -14,8 +15,8 @@ level-of-requires c κs = search needs
 
 share-out-requires : tie.Need-share-out-requires
 share-out-requires c κs =
-    let start = c .before .before .before .before .before .before .before .before .before in
-    (start .pre .1 .0, (start .pre .1 .1 .0, (start .pre .1 .1 .1, stops-own _ _ _ (c .before .level-of .ensures))))
+    let start = c .before .before .before .before .before .before .before .before in
+    ((start .pre .0 .1, start .pre .1 .0), (start .pre .1 .1 .0, (start .pre .1 .1 .1, stops-own _ _ _ (c .before .level-of .ensures))))
 
 clearing-price-requires : tie.Need-clearing-price-requires
 clearing-price-requires c κs = search needs
@@ -25,16 +26,16 @@ same-length c = search needs
 
 returns : tie.Need-returns
 returns c =
-    let start = c .before .before .before .before .before .before .before .before .before .before .before .before .before in
+    let start = c .before .before .before .before .before .before .before .before .before .before .before .before in
     let a = start .args in
-    sold-columns (a .prices .now) (a .quantities .now) (a .highs .now) (a .lows .now) (a .resources .now) _ _ _ (c .before .before .before .before .before .level-of .result) _ _ _ (start .pre .1 .0)
+    sold-columns (a .prices .now) (a .quantities .now) (highsOf (a .book .now) (a .n)) (lowsOf (a .book .now) (a .n)) (a .resources .now) _ _ _ (c .before .before .before .before .before .level-of .result) _ _ _ (start .pre .1 .0)
     (c .before .before .before .before .before .before .cleared-total .ensures .0)
     (c .before .before .before .before .before .level-of .ensures)
     (c .clearing-price .ensures)
     (c .before .before .before .share-out .ensures)
 
-pub sell-columns-spec : {M : Type 1} → statement M
-sell-columns-spec =
+pub sell-spec : {M : Type 1} → statement M
+sell-spec =
     tie.close
     (tie.spec
     cleared-total-requires

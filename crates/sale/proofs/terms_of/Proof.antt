@@ -2,8 +2,8 @@
 -- Assumes nothing.
 use native.Mathlib.Omega.{arith}
 use borrow.Author.Needs.{needs}
-use Rattle.ozpinduru.proofs.sale.terms_of.Statement.{statement}
-use Rattle.ozpinduru.proofs.sale.terms_of.Tie as tie
+use Rattle.sale.proofs.terms_of.Statement.{statement}
+use Rattle.sale.proofs.terms_of.Tie as tie
 
 number-held-requires : tie.Need-number-held-requires
 number-held-requires c κs = search needs

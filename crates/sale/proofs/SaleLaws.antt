@@ -7,6 +7,7 @@ use mathlib.Core.Path.{_≡_, refl, ap, sym, subst, _∙_}
 use mathlib.Core.List.{List}
 use Prim.Native.Nat.{ℕ, _≤_}
 use lib.ListN.{length}
+use Rattle.laws.specs.Filled.{filled}
 use Rattle.auction.specs.Offers.{Offers, supply}
 use Rattle.auction.specs.Clearing.{clearedTotal, nextPrice, clearingPrice}
 use Rattle.values.specs.declared.head.Parameters.{Parameters}
@@ -21,11 +22,12 @@ use Rattle.market.specs.declared.margin.Level.{Level}
 use Rattle.market.specs.declared.price.ClearingPrice.{ClearingPrice}
 use Rattle.market.proofs.Agree.{price-agrees}
 use Rattle.shares.specs.Out.{SharedOut}
-use Rattle.columns.specs.Columns.{Columns, ColumnsRead}
-use Rattle.ozpinduru.specs.Auction.{termsOf, total, price}
-use Rattle.ozpinduru.specs.Sale.{Clearable, SoldAs, SoldColumns}
-use Rattle.ozpinduru.specs.declared.sale.Sale.{Sale}
-use Rattle.ozpinduru.proofs.Sales.{empty, columns-offers, shared-cleared}
+use Rattle.columns.specs.Column.{highsOf, lowsOf}
+use Rattle.columns.specs.Columns.{Columns, empty, ColumnsRead}
+use Rattle.sale.specs.Auction.{termsOf, total, price, rowCleared}
+use Rattle.sale.specs.Sale.{Clearable, SoldColumns}
+use Rattle.sale.specs.declared.sell.Sale.{Sale}
+use Rattle.sale.proofs.Sales.{columns-offers, shared-cleared}
 
 pub stops-own : (o : Offers) (x : ℕ) (l : Level) → StopsAt o x l → StopsAt o (l .total) l
 stops-own o x l s = subst (λ (y : ℕ). StopsAt o y l) (sym (s .total)) s
@@ -57,11 +59,16 @@ module _ (prices quantities highs lows resources : List ℕ) (n : ℕ) where
         amounts = subst (λ (y : ℕ). SharedOut all y before after) (s .total) shared;
       }
 
--- a sale over the columns of a book is the book's sale
+-- a sale over the columns of a book: X, the price, and what each row clears
+pub record SoldAs (b : List ℕ) (p : Parameters) (n : ℕ) (before : List ℕ) (s : Sale) (after : List ℕ) : Type 0 where
+  pub quantity : s .total ≡ total b p
+  pub quote : s .price ≡ asPrice (price b p)
+  pub amounts : after ≡ filled (rowCleared b p) n before
+
 pub sold-book : (b : List ℕ) (p : Parameters) (n : ℕ) (v : Columns) → Clearable b p n → ColumnsRead b n empty v
     → (t : Terms) (c : Curve) → t ≡ termsOf p → c ≡ curve2026 t
     → (before after : List ℕ) (s : Sale) → n ≤ length before
-    → SoldColumns c (rowsOf (v .prices) (v .quantities) (v .highs) (v .lows) (v .resources) n) before s after
+    → SoldColumns c (rowsOf (v .prices) (v .quantities) (highsOf b n) (lowsOf b n) (v .resources) n) before s after
     → SoldAs b p n before s after
 unfolding total price
 sold-book b p n v ok read t c e f before after s long sold =

@@ -1,9 +1,9 @@
 -- What the columns of a book's rows are to the market: the same offers, with what the market asks of them.
 --
 -- In order: the columns read from a book are its offers; their prices and quantities; their keys for the spare tenths; the
--- amounts shared out are what the rows clear.
+-- leasts that they commit; the amounts shared out are what the rows clear.
 -- Assumes nothing.
-use mathlib.Core.Path.{_≡_, ap, sym, _∙_}
+use mathlib.Core.Path.{_≡_, refl, ap, sym, _∙_}
 use mathlib.Core.Bool.{cond}
 use mathlib.Core.List.{List}
 use Prim.Native.Nat.{ℕ, _≤_, _<_}
@@ -20,16 +20,12 @@ use Rattle.auction.specs.Shares.{cleared}
 use Rattle.values.specs.declared.head.Parameters.{Parameters}
 use Rattle.market.specs.Rows.{Rows, rowsOf}
 use Rattle.shares.specs.Out.{SharedOut, Ordered}
-use Rattle.columns.specs.Column.{priceOf, quantityOf, highOf, lowOf, resourceOf}
-use Rattle.columns.specs.Columns.{Columns, columnsOf, ColumnsRead}
+use Rattle.columns.specs.Column.{priceOf, quantityOf, leastsOf, highOf, lowOf, highsOf, lowsOf, resourceOf}
+use Rattle.columns.specs.Columns.{Columns, empty, ColumnsRead}
 use Rattle.columns.proofs.Offers.{getD-column, getD-stamps}
 use Rattle.layout.specs.Read.{bookOffer}
-use Rattle.ozpinduru.specs.Auction.{offersOf, total, rowCleared}
-use Rattle.ozpinduru.specs.Sale.{Clearable}
-
--- five columns of 600 zeros
-abbrev pub empty : Columns
-empty = columnsOf (zeros 600) (zeros 600) (zeros 600) (zeros 600) (zeros 600)
+use Rattle.sale.specs.Auction.{offersOf, total, rowCleared}
+use Rattle.sale.specs.Sale.{Clearable}
 
 -- the offers of a book by a count of its rows
 abbrev ofCount : List ℕ → ℕ → Offers
@@ -44,14 +40,14 @@ ofCount b m =
 
 module _ (b : List ℕ) (p : Parameters) (n : ℕ) (v : Columns) (ok : Clearable b p n) (read : ColumnsRead b n empty v) where
   -- the columns are the book's offers
-  pub columns-offers : rowsOf (v .prices) (v .quantities) (v .highs) (v .lows) (v .resources) n ≡ offersOf b
+  pub columns-offers : rowsOf (v .prices) (v .quantities) (highsOf b n) (lowsOf b n) (v .resources) n ≡ offersOf b
   unfolding offersOf
   columns-offers =
       (λ i. record {
         count = n;
         price = getD-column (priceOf b) n few (read .price) i;
         quantity = getD-column (quantityOf b) n few (read .quantity) i;
-        stamp = getD-stamps b n few (read .high) (read .low) i;
+        stamp = getD-stamps b n few refl refl i;
         resource = getD-column (resourceOf b) n few (read .resource) i;
       })
       ∙ ap (ofCount b) (ok .rows)
@@ -78,18 +74,25 @@ module _ (b : List ℕ) (p : Parameters) (n : ℕ) (v : Columns) (ok : Clearable
         cheap = λ i l. omega (arith, column-row (priceOf b) (read .price) i l, ok .priced i l);
       }
 
-  pub columns-ordered : Ordered (v .quantities) (v .highs) (v .lows) (v .resources) n
+  pub columns-ordered : Ordered (v .quantities) (highsOf b n) (lowsOf b n) (v .resources) n
   columns-ordered =
       record {
-        highs-long = column-long (highOf b) (read .high);
-        lows-long = column-long (lowOf b) (read .low);
+        highs-long = column-long (highOf b) refl;
+        lows-long = column-long (lowOf b) refl;
         resources-long = column-long (resourceOf b) (read .resource);
         positive = λ i l. omega (arith, column-row (quantityOf b) (read .quantity) i l, ok .offered i l);
       }
 
+  -- the leasts that the rows commit
+  pub leasts-long : n ≤ length (v .leasts)
+  leasts-long = column-long (leastsOf b) (read .least)
+
+  pub leasts-row : (i : ℕ) → i < n → getD (v .leasts) i 0 ≡ leastsOf b i
+  leasts-row = column-row (leastsOf b) (read .least)
+
   -- the amounts shared out over the columns are what the book's rows clear
   pub shared-cleared : (x : ℕ) (before after : List ℕ) → n ≤ length before → x ≡ total b p
-      → SharedOut (rowsOf (v .prices) (v .quantities) (v .highs) (v .lows) (v .resources) n) x before after
+      → SharedOut (rowsOf (v .prices) (v .quantities) (highsOf b n) (lowsOf b n) (v .resources) n) x before after
       → after ≡ filled (rowCleared b p) n before
   unfolding rowCleared
   shared-cleared x before after long e s =
@@ -100,5 +103,5 @@ module _ (b : List ℕ) (p : Parameters) (n : ℕ) (v : Columns) (ok : Clearable
       (λ h. s .row i h ∙ row-clears i ∙ sym (getD-filled (rowCleared b p) n before i 0 long h)))
     where
       row-clears : (i : ℕ)
-          → cleared (rowsOf (v .prices) (v .quantities) (v .highs) (v .lows) (v .resources) n) x i ≡ cleared (offersOf b) (total b p) i
+          → cleared (rowsOf (v .prices) (v .quantities) (highsOf b n) (lowsOf b n) (v .resources) n) x i ≡ cleared (offersOf b) (total b p) i
       row-clears i = rw (columns-offers, e)

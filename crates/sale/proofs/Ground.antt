@@ -1,5 +1,5 @@
 -- The auction of a book that can be cleared stands on firm ground: its curve never rises, every row offers something, and no
--- two rows have one resource number. So does that of an accepted book.
+-- two rows have one resource number.
 -- Assumes nothing.
 use mathlib.Core.Path.{_≡_, sym, _∙_}
 use mathlib.Core.Bool.{cond}
@@ -9,17 +9,14 @@ use native.Mathlib.Omega.{arith}
 use borrow.Author.Tests.{lt-ltb}
 use Rattle.laws.proofs.Cases.{cond-true}
 use Rattle.auction.specs.Offers.{Falling, Proper}
-use Rattle.values.specs.declared.Verdict.the-variants.{Passed}
 use Rattle.values.specs.declared.head.Parameters.{Parameters}
 use Rattle.curve.specs.Shape.{curve2026, Shaped}
 use Rattle.curve.proofs.Shapes.{curve2026-shaped}
 use Rattle.curve.proofs.Prices.{curve-falls}
 use Rattle.layout.specs.Form.{offerCount}
-use Rattle.layout.specs.Read.{bookParameters, bookOffer}
-use Rattle.book.specs.Faults.{firstFault}
-use Rattle.ozpinduru.specs.Auction.{termsOf, ofRow, offersOf, demand}
-use Rattle.ozpinduru.specs.Sale.{Clearable}
-use Rattle.ozpinduru.proofs.Clearables.{accepted-clearable}
+use Rattle.layout.specs.Read.{bookOffer}
+use Rattle.sale.specs.Auction.{termsOf, ofRow, offersOf, demand}
+use Rattle.sale.specs.Sale.{Clearable}
 
 -- a value of a row that is there
 pub ofRow-there : (b : List ℕ) (value : ℕ → ℕ) (row : ℕ) → row < offerCount b → ofRow b value row ≡ value row
@@ -44,10 +41,3 @@ module _ (b : List ℕ) (p : Parameters) (n : ℕ) (ok : Clearable b p n) where
             ok .distinct i j (there i l) (there j m)
             (sym (ofRow-there b (λ row. bookOffer b row .resource) i l) ∙ e ∙ ofRow-there b (λ row. bookOffer b row .resource) j m);
       }
-
-module _ (b : List ℕ) (a : firstFault b ≡ Passed) where
-  pub accepted-falls : Falling (demand b (bookParameters b))
-  accepted-falls = clearable-falls b (bookParameters b) (offerCount b) (accepted-clearable b a)
-
-  pub accepted-proper : Proper (offersOf b)
-  accepted-proper = clearable-proper b (bookParameters b) (offerCount b) (accepted-clearable b a)

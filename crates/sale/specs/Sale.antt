@@ -4,7 +4,6 @@ use Prim.Native.Nat.{ℕ, _≤_, _<_}
 use mathlib.Core.Path.{_≡_}
 use mathlib.Core.List.{List}
 use mathlib.Core.Option.{some}
-use Rattle.laws.specs.Filled.{filled}
 use Rattle.values.specs.Values.{held}
 use Rattle.values.specs.declared.head.Parameters.{Parameters}
 use Rattle.curve.specs.Points.{InRange}
@@ -17,8 +16,8 @@ use Rattle.shares.specs.Out.{SharedOut}
 use Rattle.settle.specs.Read.{optional}
 use Rattle.layout.specs.Read.{bookOffer, Inside}
 use Rattle.layout.specs.Form.{offerCount}
-use Rattle.ozpinduru.specs.Auction.{termsOf, total, price, rowCleared}
-use Rattle.ozpinduru.specs.declared.sale.Sale.{Sale}
+use Rattle.sale.specs.Auction.{termsOf}
+use Rattle.sale.specs.declared.sell.Sale.{Sale}
 
 -- all n rows of a book can be cleared under the parameters: the book and the parameters have passed the refusals
 pub record Clearable (b : List ℕ) (p : Parameters) (n : ℕ) : Type 0 where
@@ -32,12 +31,6 @@ pub record Clearable (b : List ℕ) (p : Parameters) (n : ℕ) : Type 0 where
   -- a minimum block is no larger than the offer
   pub blocks : (row : ℕ) → row < n → (block : ℕ) → optional (bookOffer b row .block) ≡ some block
       → block ≤ bookOffer b row .quantity
-
--- the sale is X at the clearing price, and the amounts are what each row clears; entries past the last row stay
-pub record SoldAs (b : List ℕ) (p : Parameters) (n : ℕ) (before : List ℕ) (s : Sale) (after : List ℕ) : Type 0 where
-  pub quantity : s .total ≡ total b p
-  pub quote : s .price ≡ asPrice (price b p)
-  pub amounts : after ≡ filled (rowCleared b p) n before
 
 -- the sale of offers on a curve: X at the clearing price, and the amounts are what each row clears of X
 pub record SoldColumns (c : Curve) (o : Offers) (before : List ℕ) (s : Sale) (after : List ℕ) : Type 0 where

@@ -1,0 +1,4 @@
+pub mod Ground
+pub mod Sales
+pub mod SaleLaws
+pub mod Payments

@@ -1,0 +1,46 @@
+// What rows sell on a curve: the total, the price, and each row's amount.
+use curve::Curve;
+use market::margin::level_of;
+use market::price::ClearingPrice;
+use market::price::clearing_price;
+use market::total::cleared_total;
+use shares::share_out;
+ghost use Prim.Native.Nat.{_≤_};
+ghost use lib.ListN.{length};
+ghost use Rattle.curve.specs.Shape.{Shaped};
+ghost use Rattle.market.specs.Rows.{Rows, rowsOf};
+ghost use Rattle.layout.specs.Read.{Inside};
+ghost use Rattle.columns.specs.Column.{highsOf, lowsOf};
+ghost use Rattle.shares.specs.Out.{Ordered};
+ghost use Rattle.sale.specs.Sale.{SoldColumns};
+
+// The total and the price of a sale.
+pub struct Sale {
+    pub total: u32,
+    pub price: ClearingPrice,
+}
+
+// The sale of n rows on a curve, with what each row clears.
+pub(crate) fn sell(
+    c: Curve,
+    book: &[u8],
+    prices: &[u32],
+    quantities: &[u32],
+    resources: &[u32],
+    n: usize,
+    amounts: &mut [u32],
+) -> Sale
+    requires { ⌜ Shaped c × Inside (now book) n ⌝ }
+    requires { ⌜ Rows (now prices) (now quantities) n ⌝ }
+    requires { ⌜ Ordered (now quantities) (highsOf (now book) n) (lowsOf (now book) n) (now resources) n ⌝ }
+    requires { ⌜ n ≤ length (now amounts) ⌝ }
+    ensures { λ r. ⌜ SoldColumns c (rowsOf (now (prices .entry)) (now (quantities .entry)) (highsOf (now (book .entry)) n) (lowsOf (now (book .entry)) n) (now (resources .entry)) n) (now (amounts .entry)) r (now (amounts .exit)) ⌝ }
+{
+    let total = cleared_total(c, prices, quantities, n);
+    let level = level_of(prices, quantities, n, total);
+    share_out(book, prices, quantities, resources, n, level, amounts);
+    Sale {
+        total,
+        price: clearing_price(c, level),
+    }
+}
