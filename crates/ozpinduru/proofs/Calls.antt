@@ -1,65 +1,76 @@
 -- What each way through the call shows.
 --
--- In order: the ways out of the fault of a call; what a call with no fault may count on; an accepted book cleared into its
--- buffers; a refusal's outcome and a clearing's.
+-- In order: the fault of a call, past what comes before the rows; buffers that are long enough; what a call with no fault may
+-- count on; a refusal's outcome and a clearing's; the answer with no buffers.
 -- Assumes nothing.
-use mathlib.Core.Path.{_≡_, sym, ap, ap₂, subst₂, _∙_}
+use mathlib.Core.Path.{_≡_, refl, sym, ap, ap₂, subst₂, _∙_}
+use mathlib.Core.Bool.{true}
 use mathlib.Core.List.{List}
-use Prim.Native.Nat.{ℕ, _≤_, _<_}
+use Prim.Native.Nat.{ℕ, _≤_}
+use native.Mathlib.Omega.{arith}
 use lib.Dec.{leb}
-use lib.ListN.{length, getD}
-use borrow.Author.Tests.{le-leb, lt-leb, leb-true}
+use lib.ListN.{length}
+use borrow.Author.Tests.{le-leb, leb-true}
 use Rattle.laws.specs.Filled.{filled}
-use Rattle.laws.proofs.Fills.{getD-filled, filled-ext}
-use Rattle.laws.proofs.Filling.{zeros, length-zeros}
-use Rattle.auction.specs.Settlement.{committed}
 use Rattle.values.specs.Refusals.{unless, andThen, shortBuffer}
 use Rattle.values.specs.declared.Verdict.{Verdict}
 use Rattle.values.specs.declared.Verdict.the-variants.{Passed, Refused}
 use Rattle.values.specs.declared.head.Parameters.{Parameters}
-use Rattle.values.proofs.Firsts.{andThen-next, andThen-refused, andThen-left, andThen-right, unless-true, unless-false, unless-passed}
-use Rattle.settle.specs.Read.{optional}
+use Rattle.values.proofs.Firsts.{andThen-next, andThen-refused, andThen-left, andThen-right, unless-true, unless-passed}
+use Rattle.limits.specs.Offers.{rowsFault}
 use Rattle.layout.specs.Form.{offerCount}
 use Rattle.layout.specs.Read.{bookParameters, bookOffer}
-use Rattle.book.specs.Faults.{firstFault}
+use Rattle.book.specs.Faults.{firstFault, statedFault}
+use Rattle.book.proofs.Stages.{first-stated}
+use Rattle.book.proofs.Accepted.{accepted-inside}
 use Rattle.sale.specs.Auction.{rowCleared, rowCommitted}
 use Rattle.sale.specs.Sale.{Clearable}
-use Rattle.sale.specs.Payment.{commitmentOf, ClearedAs}
-use Rattle.ozpinduru.specs.Answer.{Outcome, ClearedInto, answerOf, answerBy, bufferBy, bufferFault, callFault, clearingOf}
+use Rattle.sale.specs.Payment.{clearingOf, ClearedAs}
 use Rattle.sale.specs.declared.Clearing.{Clearing}
+use Rattle.ozpinduru.specs.Answer.{Outcome, answerOf, answerBy, bufferBy, bufferFault, callFault}
+use Rattle.ozpinduru.specs.declared.Answer.{Answer}
 use Rattle.ozpinduru.specs.declared.Answer.the-variants.{Cleared as Answer·Cleared, Refused as Answer·Refused}
 use Rattle.ozpinduru.proofs.Clearables.{accepted-clearable}
 
 -- ---- the fault of a call
 
 module _ (b : List ℕ) (cleared committed : ℕ) where
-  pub fault-book : (v : Verdict) (number place : ℕ) → v ≡ firstFault b → v ≡ Refused number place
+  -- where what comes before the rows is refused, the call is
+  pub fault-stated : (v : Verdict) (number place : ℕ) → v ≡ statedFault b → v ≡ Refused number place
       → Refused number place ≡ callFault b cleared committed
   unfolding callFault
-  fault-book v number place e f = sym (andThen-refused (firstFault b) _ number place (sym e ∙ f))
+  fault-stated v number place e f =
+      sym (andThen-refused (firstFault b) _ number place
+      (first-stated b ∙ andThen-refused (statedFault b) _ number place (sym e ∙ f)))
 
-  module _ (accepted : firstFault b ≡ Passed) where
-    to-buffers : callFault b cleared committed ≡ bufferFault (offerCount b) cleared committed
-    unfolding callFault
-    to-buffers = andThen-next (firstFault b) _ accepted
+  -- where it passed, the rows decide, and then the buffers
+  pub fault-rows : statedFault b ≡ Passed → (n : ℕ) (rows short v : Verdict) → n ≡ offerCount b
+      → rows ≡ rowsFault true (bookOffer b) n → short ≡ bufferFault n cleared committed → v ≡ andThen rows short
+      → v ≡ callFault b cleared committed
+  unfolding callFault
+  fault-rows stated n rows short v e f g h =
+      h
+      ∙ ap₂ andThen
+      (f ∙ ap (rowsFault true (bookOffer b)) e ∙ sym (first-stated b ∙ andThen-next (statedFault b) _ stated))
+      (g ∙ ap (λ m. bufferFault m cleared committed) e)
 
-    pub fault-cleared : cleared < offerCount b → Refused 9 1 ≡ callFault b cleared committed
-    unfolding bufferFault
-    fault-cleared l =
-        sym (to-buffers ∙ andThen-refused (unless (leb (offerCount b) cleared) (shortBuffer 1)) _ 9 1
-        (unless-false (leb (offerCount b) cleared) (shortBuffer 1) (lt-leb (offerCount b) cleared l)))
+  long-enough : offerCount b ≤ cleared → offerCount b ≤ committed → bufferFault (offerCount b) cleared committed ≡ Passed
+  unfolding bufferFault
+  long-enough h k =
+      andThen-next (unless (leb (offerCount b) cleared) (shortBuffer 1)) _
+      (unless-true (leb (offerCount b) cleared) (shortBuffer 1) (le-leb (offerCount b) cleared h))
+      ∙ unless-true (leb (offerCount b) committed) (shortBuffer 2) (le-leb (offerCount b) committed k)
 
-    to-committed : offerCount b ≤ cleared → callFault b cleared committed ≡ unless (leb (offerCount b) committed) (shortBuffer 2)
-    unfolding bufferFault
-    to-committed h =
-        to-buffers ∙ andThen-next (unless (leb (offerCount b) cleared) (shortBuffer 1)) _
-        (unless-true (leb (offerCount b) cleared) (shortBuffer 1) (le-leb (offerCount b) cleared h))
+  -- with buffers of 600 entries it is the book's own
+  fault-by : (v : Verdict) → firstFault b ≡ v → 600 ≤ cleared → 600 ≤ committed → callFault b cleared committed ≡ v
+  unfolding callFault
+  fault-by Passed e h k =
+      let few = accepted-inside b e .few in
+      andThen-next (firstFault b) _ e ∙ long-enough (omega (arith, few)) (omega (arith, few))
+  fault-by (Refused number place) e h k = andThen-refused (firstFault b) _ number place e
 
-    pub fault-committed : offerCount b ≤ cleared → committed < offerCount b → Refused 9 2 ≡ callFault b cleared committed
-    fault-committed h l = sym (to-committed h ∙ unless-false (leb (offerCount b) committed) (shortBuffer 2) (lt-leb (offerCount b) committed l))
-
-    pub fault-none : offerCount b ≤ cleared → offerCount b ≤ committed → Passed ≡ callFault b cleared committed
-    fault-none h l = sym (to-committed h ∙ unless-true (leb (offerCount b) committed) (shortBuffer 2) (le-leb (offerCount b) committed l))
+  pub fault-first : 600 ≤ cleared → 600 ≤ committed → callFault b cleared committed ≡ firstFault b
+  fault-first h k = fault-by (firstFault b) refl h k
 
 -- a call with no fault: the book is accepted, and both buffers are long enough
 pub record Callable (b : List ℕ) (cleared committed : ℕ) : Type 0 where
@@ -81,74 +92,41 @@ passed-callable b cleared committed e =
           (unless-passed (leb (offerCount b) committed) 9 2 (andThen-right (unless (leb (offerCount b) cleared) (shortBuffer 1)) _ buffers));
     }
 
--- ---- an accepted book cleared into its buffers
-
 -- the parameters and the count that the code read are the book's own
 pub read-clearable : (b : List ℕ) (p : Parameters) (n : ℕ) → firstFault b ≡ Passed → p ≡ bookParameters b → n ≡ offerCount b
     → Clearable b p n
 read-clearable b p n a e f = subst₂ (λ (q : Parameters) (m : ℕ). Clearable b q m) (sym e) (sym f) (accepted-clearable b a)
 
--- the same clearing, by equal parameters and an equal count
-pub cleared-same : {b : List ℕ} {p p′ : Parameters} {n n′ : ℕ} {before after : List ℕ} {c : Clearing} → p ≡ p′ → n ≡ n′
-    → ClearedAs b p n before c after → ClearedAs b p′ n′ before c after
-cleared-same {b} {p} {p′} {n} {n′} {before} {after} {c} e f s =
-    subst₂ (λ (q : Parameters) (m : ℕ). ClearedAs b q m before c after) e f s
-
-pub cleared-into : (b : List ℕ) (p : Parameters) (n : ℕ) (c : Clearing) (amounts cleared cleared′ committed committed′ : List ℕ)
-    → p ≡ bookParameters b → n ≡ offerCount b → n ≤ 600
-    → ClearedAs b p n (zeros 600) c amounts
-    → cleared′ ≡ filled (λ i. getD amounts i 0) n cleared
-    → committed′ ≡ filled (commitmentOf b (λ i. getD amounts i 0)) n committed
-    → ClearedInto b cleared committed c cleared′ committed′
-unfolding rowCommitted
-cleared-into b p n c amounts cleared cleared′ committed committed′ e f few s g h =
-    record {
-      clearing = s .clearing ∙ ap (clearingOf b) e;
-      cleared-holds = g ∙ filled-ext _ (rowCleared b p) n cleared row ∙ ap₂ (λ q m. filled (rowCleared b q) m cleared) e f;
-      committed-holds =
-          h ∙ filled-ext _ (rowCommitted b p) n committed (λ i l. ap (λ (x : ℕ). committed-of i x) (row i l))
-          ∙ ap₂ (λ q m. filled (rowCommitted b q) m committed) e f;
-    }
-  where
-    row : (i : ℕ) → i < n → getD amounts i 0 ≡ rowCleared b p i
-    row i l = ap (λ (xs : List ℕ). getD xs i 0) (s .amounts) ∙ getD-filled (rowCleared b p) n (zeros 600) i 0 (rw (length-zeros 600) few) l
-
-    committed-of : ℕ → ℕ → ℕ
-    committed-of i x = Rattle.auction.specs.Settlement.committed (optional (bookOffer b i .block)) x
-
--- ---- the answer with no buffers
-
-pub answer-fault : (b : List ℕ) (v : Verdict) (number place : ℕ) → v ≡ firstFault b → v ≡ Refused number place
-    → Answer·Refused number place ≡ answerOf b
-answer-fault b v number place e f = sym (ap (λ w. answerBy w (clearingOf b (bookParameters b))) (sym e ∙ f))
-
-pub answer-cleared : (b : List ℕ) (c : Clearing) → firstFault b ≡ Passed → c ≡ clearingOf b (bookParameters b)
-    → Answer·Cleared c ≡ answerOf b
-answer-cleared b c a e = ap Answer·Cleared e ∙ sym (ap (λ w. answerBy w (clearingOf b (bookParameters b))) a)
-
 -- ---- outcomes
 
-pub outcome-refused : (b cleared committed : List ℕ) (v : Verdict) (number place : ℕ)
-    → v ≡ callFault b (length cleared) (length committed) → v ≡ Refused number place
+pub outcome-refused : (b cleared committed : List ℕ) (number place : ℕ)
+    → Refused number place ≡ callFault b (length cleared) (length committed)
     → Outcome b cleared committed (Answer·Refused number place) cleared committed
-outcome-refused b cleared committed v number place e f =
-    let g = sym e ∙ f in
+outcome-refused b cleared committed number place e =
     record {
-      answered = sym (ap (λ w. answerBy w (clearingOf b (bookParameters b))) g);
-      cleared-holds = sym (ap (λ w. bufferBy w cleared (filled (rowCleared b (bookParameters b)) (offerCount b) cleared)) g);
-      committed-holds = sym (ap (λ w. bufferBy w committed (filled (rowCommitted b (bookParameters b)) (offerCount b) committed)) g);
+      answered = ap (λ w. answerBy w (clearingOf b (bookParameters b))) e;
+      cleared-holds = ap (λ w. bufferBy w cleared (filled (rowCleared b (bookParameters b)) (offerCount b) cleared)) e;
+      committed-holds = ap (λ w. bufferBy w committed (filled (rowCommitted b (bookParameters b)) (offerCount b) committed)) e;
     }
 
-pub outcome-cleared : (b cleared committed : List ℕ) (v : Verdict) (c : Clearing) (cleared′ committed′ : List ℕ)
-    → v ≡ callFault b (length cleared) (length committed) → v ≡ Passed
-    → ClearedInto b cleared committed c cleared′ committed′
+-- a clearing by the parameters and the count that the code read
+pub outcome-cleared : (b cleared committed : List ℕ) (p : Parameters) (n : ℕ) (c : Clearing) (cleared′ committed′ : List ℕ)
+    → p ≡ bookParameters b → n ≡ offerCount b
+    → Passed ≡ callFault b (length cleared) (length committed)
+    → ClearedAs b p n cleared committed c cleared′ committed′
     → Outcome b cleared committed (Answer·Cleared c) cleared′ committed′
-outcome-cleared b cleared committed v c cleared′ committed′ e f s =
-    let g = sym e ∙ f in
+outcome-cleared b cleared committed p n c cleared′ committed′ e f g s =
+    let own = subst₂ (λ (q : Parameters) (m : ℕ). ClearedAs b q m cleared committed c cleared′ committed′) e f s in
     record {
-      answered = ap Answer·Cleared (s .clearing) ∙ sym (ap (λ w. answerBy w (clearingOf b (bookParameters b))) g);
+      answered = ap Answer·Cleared (own .clearing) ∙ ap (λ w. answerBy w (clearingOf b (bookParameters b))) g;
       cleared-holds =
-          s .cleared-holds ∙ sym (ap (λ w. bufferBy w cleared (filled (rowCleared b (bookParameters b)) (offerCount b) cleared)) g);
+          own .cleared-holds ∙ ap (λ w. bufferBy w cleared (filled (rowCleared b (bookParameters b)) (offerCount b) cleared)) g;
       committed-holds =
-          s .committed-holds ∙ sym (ap (λ w. bufferBy w committed (filled (rowCommitted b (bookParameters b)) (offerCount b) committed)) g);
+          own .committed-holds ∙ ap (λ w. bufferBy w committed (filled (rowCommitted b (bookParameters b)) (offerCount b) committed)) g;
     }
+
+-- the answer into buffers of 600 entries is the answer with none
+pub outcome-answer : (b cleared committed : List ℕ) (a : Answer) (cleared′ committed′ : List ℕ)
+    → 600 ≤ length cleared → 600 ≤ length committed → Outcome b cleared committed a cleared′ committed′ → a ≡ answerOf b
+outcome-answer b cleared committed a cleared′ committed′ h k out =
+    out .answered ∙ ap (λ w. answerBy w (clearingOf b (bookParameters b))) (fault-first b (length cleared) (length committed) h k)

@@ -1,11 +1,13 @@
 -- An accepted book can be cleared.
 --
--- In order: its terms are in range; a minimum block that is there is no larger than the offer; so all its rows can be cleared.
+-- In order: its terms are in range; a minimum block that is there is no larger than the offer; so all its rows can be cleared,
+-- and its auction stands on firm ground.
 -- Assumes nothing.
 use mathlib.Core.Path.{_≡_, refl}
 use mathlib.Core.List.{List}
 use mathlib.Core.Option.{some}
 use Prim.Native.Nat.{ℕ}
+use Rattle.auction.specs.Offers.{Falling, Proper}
 use Rattle.values.specs.declared.Value.{Value}
 use Rattle.values.specs.declared.Value.the-variants.{Given, Missing}
 use Rattle.values.specs.declared.Verdict.the-variants.{Passed}
@@ -17,8 +19,9 @@ use Rattle.layout.specs.Form.{offerCount}
 use Rattle.layout.specs.Read.{bookParameters}
 use Rattle.book.specs.Faults.{firstFault}
 use Rattle.book.proofs.Accepted.{accepted-inside, accepted-in-range, accepted-priced, accepted-distinct}
-use Rattle.sale.specs.Auction.{termsOf}
+use Rattle.sale.specs.Auction.{termsOf, offersOf, demand}
 use Rattle.sale.specs.Sale.{Clearable}
+use Rattle.sale.proofs.Ground.{clearable-falls, clearable-proper}
 
 pub terms-in-range : (p : Parameters) → Ranged p → InRange (termsOf p)
 terms-in-range p r =
@@ -48,3 +51,11 @@ accepted-clearable b a =
       distinct = accepted-distinct b a;
       blocks = λ row l block e. accepted-priced b a row l .sound .block-to block (optional-given _ block e);
     }
+
+-- so the curve of an accepted book never rises, every row offers something, and no two rows have one resource number
+module _ (b : List ℕ) (a : firstFault b ≡ Passed) where
+  pub accepted-falls : Falling (demand b (bookParameters b))
+  accepted-falls = clearable-falls b (bookParameters b) (offerCount b) (accepted-clearable b a)
+
+  pub accepted-proper : Proper (offersOf b)
+  accepted-proper = clearable-proper b (bookParameters b) (offerCount b) (accepted-clearable b a)

@@ -22,10 +22,11 @@ use Rattle.layout.specs.Read.{bookParameters}
 use Rattle.book.specs.Faults.{firstFault}
 use Rattle.values.specs.declared.Verdict.the-variants.{Passed}
 use Rattle.sale.specs.Auction.{offersOf, demand, total, price, rowCleared}
-use Rattle.ozpinduru.specs.Answer.{Outcome, clearingOf}
+use Rattle.ozpinduru.specs.Answer.{Outcome}
+use Rattle.sale.specs.Payment.{clearingOf}
 use Rattle.sale.specs.declared.Clearing.{Clearing}
 use Rattle.ozpinduru.specs.declared.Answer.the-variants.{Cleared as Answer·Cleared}
-use Rattle.sale.proofs.Ground.{accepted-falls, accepted-proper}
+use Rattle.ozpinduru.proofs.Clearables.{accepted-falls, accepted-proper}
 use Rattle.ozpinduru.proofs.Outcomes.{cleared-accepted, cleared-clearing, cleared-row}
 
 -- amounts that agree in every row clear by price alike

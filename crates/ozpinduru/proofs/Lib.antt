@@ -1,10 +1,6 @@
 pub mod Clearables
-pub mod Ground
 pub mod Calls
 pub mod Outcomes
-pub mod Sales
-pub mod SaleLaws
-pub mod Payments
 pub mod Demands
 pub mod Nothing
 pub mod Blocks

@@ -15,7 +15,8 @@ use Rattle.market.specs.declared.price.ClearingPrice.the-variants.{NoPrice}
 use Rattle.layout.specs.Form.{offerCount}
 use Rattle.layout.specs.Read.{bookParameters}
 use Rattle.sale.specs.Auction.{offersOf, demand, total, price, rowMakeWhole, allMakeWhole, dailyTotal, yearTotal}
-use Rattle.ozpinduru.specs.Answer.{Outcome, clearingOf}
+use Rattle.ozpinduru.specs.Answer.{Outcome}
+use Rattle.sale.specs.Payment.{clearingOf}
 use Rattle.sale.specs.declared.Clearing.{Clearing}
 use Rattle.ozpinduru.specs.declared.Answer.the-variants.{Cleared as Answer·Cleared}
 use Rattle.ozpinduru.proofs.Outcomes.{cleared-clearing}

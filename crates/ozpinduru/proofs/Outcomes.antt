@@ -14,7 +14,8 @@ use Rattle.layout.specs.Form.{offerCount}
 use Rattle.layout.specs.Read.{bookParameters}
 use Rattle.book.specs.Faults.{firstFault}
 use Rattle.sale.specs.Auction.{rowCleared, rowCommitted}
-use Rattle.ozpinduru.specs.Answer.{Outcome, answerBy, bufferBy, callFault, clearingOf}
+use Rattle.ozpinduru.specs.Answer.{Outcome, answerBy, bufferBy, callFault}
+use Rattle.sale.specs.Payment.{clearingOf}
 use Rattle.sale.specs.declared.Clearing.{Clearing}
 use Rattle.ozpinduru.specs.declared.Answer.{Answer}
 use Rattle.ozpinduru.specs.declared.Answer.the-variants.{Cleared as Answer·Cleared, Refused as Answer·Refused}

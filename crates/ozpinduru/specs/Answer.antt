@@ -9,12 +9,11 @@ use Rattle.laws.specs.Filled.{filled}
 use Rattle.values.specs.Refusals.{unless, andThen, shortBuffer}
 use Rattle.values.specs.declared.Verdict.{Verdict}
 use Rattle.values.specs.declared.Verdict.the-variants.{Passed, Refused}
-use Rattle.values.specs.declared.head.Parameters.{Parameters}
-use Rattle.market.specs.Price.{asPrice}
 use Rattle.layout.specs.Form.{offerCount}
 use Rattle.layout.specs.Read.{bookParameters}
 use Rattle.book.specs.Faults.{firstFault}
-use Rattle.sale.specs.Auction.{total, price, rowCleared, rowCommitted, allMakeWhole, dailyTotal, yearTotal}
+use Rattle.sale.specs.Auction.{rowCleared, rowCommitted}
+use Rattle.sale.specs.Payment.{clearingOf}
 use Rattle.sale.specs.declared.Clearing.{Clearing}
 use Rattle.ozpinduru.specs.declared.Answer.{Answer}
 use Rattle.ozpinduru.specs.declared.Answer.the-variants.{Cleared as Answer·Cleared, Refused as Answer·Refused}
@@ -27,17 +26,6 @@ bufferFault offers cleared committed =
 -- the first fault of a call: the book's own, then the buffers'
 unfoldable pub callFault : List ℕ → ℕ → ℕ → Verdict
 callFault b cleared committed = andThen (firstFault b) (bufferFault (offerCount b) cleared committed)
-
--- the clearing of the rows of a book under parameters
-unfoldable pub clearingOf : List ℕ → Parameters → Clearing
-clearingOf b p =
-    record {
-      total = total b p;
-      price = asPrice (price b p);
-      «make_whole» = allMakeWhole b p;
-      daily = dailyTotal b p;
-      year = yearTotal b p;
-    }
 
 -- a refusal's number and place, or the clearing
 abbrev pub answerBy : Verdict → Clearing → Answer
@@ -52,13 +40,6 @@ answerOf b = answerBy (firstFault b) (clearingOf b (bookParameters b))
 abbrev pub bufferBy : Verdict → List ℕ → List ℕ → List ℕ
 bufferBy Passed before after = after
 bufferBy (Refused number place) before after = before
-
--- an accepted book cleared into two buffers: the clearing, and each row's cleared and committed tenths; entries past the last
--- row are not touched
-pub record ClearedInto (b cleared committed : List ℕ) (c : Clearing) (cleared′ committed′ : List ℕ) : Type 0 where
-  pub clearing : c ≡ clearingOf b (bookParameters b)
-  pub cleared-holds : cleared′ ≡ filled (rowCleared b (bookParameters b)) (offerCount b) cleared
-  pub committed-holds : committed′ ≡ filled (rowCommitted b (bookParameters b)) (offerCount b) committed
 
 -- The outcome of a call: the answer, and both buffers as it leaves them. Each row has its cleared and its committed tenths;
 -- entries past the last row are not touched.

@@ -21,7 +21,8 @@ use Rattle.market.specs.declared.price.ClearingPrice.{ClearingPrice}
 use Rattle.market.specs.declared.price.ClearingPrice.the-variants.{Price, NoPrice}
 use Rattle.layout.specs.Form.{offerCount, formFault}
 use Rattle.layout.specs.Read.{bookParameters, bookOffer}
-use Rattle.ozpinduru.specs.Answer.{Outcome, answerBy, callFault, clearingOf}
+use Rattle.sale.specs.Payment.{clearingOf}
+use Rattle.ozpinduru.specs.Answer.{Outcome, answerBy, callFault}
 use Rattle.ozpinduru.specs.declared.Answer.{Answer}
 use Rattle.ozpinduru.specs.declared.Answer.the-variants.{Cleared as Answer·Cleared, Refused as Answer·Refused}
 use Rattle.ozpinduru.specs.declared.export.OzpAnswer.{OzpAnswer}

@@ -5,12 +5,12 @@
 use crate::call::clear;
 use crate::plain;
 use crate::plotted;
-use crate::sale::terms_of;
 use curve::points_2026;
 use curve::price_at;
 use layout::reader::own_bytes;
 use limits::parameters::parameter_fault;
 use market::price::ClearingPrice;
+use sale::terms_of;
 use settle::make_whole;
 use units::CentsPerMwDay;
 use values::Value;

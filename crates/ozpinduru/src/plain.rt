@@ -1,9 +1,9 @@
 // Answers and rows as plain structs of numbers. A field that has no value holds all ones.
 use crate::Answer;
-use crate::Clearing;
 use crate::export::OzpAnswer;
 use crate::export::OzpRow;
 use market::price::ClearingPrice;
+use sale::Clearing;
 use values::Value;
 use values::number_held;
 use values::place::Offer;

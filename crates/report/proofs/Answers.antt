@@ -16,24 +16,17 @@ use Rattle.layout.specs.Read.{bookParameters, bookOffer}
 use Rattle.book.specs.Faults.{firstFault}
 use Rattle.book.proofs.Accepted.{accepted-inside}
 use Rattle.sale.specs.Auction.{total, price, rowCleared, rowCommitted, rowMakeWhole, dailyTotal, yearTotal}
-use Rattle.ozpinduru.specs.Answer.{Outcome, callFault, clearingOf}
+use Rattle.sale.specs.Payment.{clearingOf}
+use Rattle.ozpinduru.specs.Answer.{Outcome, callFault}
 use Rattle.sale.specs.declared.Clearing.{Clearing}
 use Rattle.ozpinduru.specs.declared.Answer.{Answer}
 use Rattle.ozpinduru.specs.declared.Answer.the-variants.{Cleared as Answer·Cleared, Refused as Answer·Refused}
-use Rattle.ozpinduru.proofs.Calls.{fault-book, fault-none}
+use Rattle.ozpinduru.proofs.Calls.{fault-first}
 use Rattle.sale.proofs.Payments.{quoted-asPrice}
 use Rattle.ozpinduru.proofs.Outcomes.{cleared-accepted, cleared-clearing, cleared-row, committed-row, refused-first}
 use Rattle.report.specs.Lines.{clearedWord, dailyWord, yearWord, lineText, priceText, refusalText, rowText}
 use Rattle.report.specs.Report.{soldText, clearingText, reportBy, reportText}
 use Rattle.report.proofs.Fitting.{rowsText-ext}
-
--- the first fault of a call with buffers of 600 entries is the book's
-fault-first : (b : List ℕ) (cleared committed : ℕ) (v : Verdict) → 600 ≤ cleared → 600 ≤ committed → firstFault b ≡ v
-    → callFault b cleared committed ≡ v
-fault-first b cleared committed Passed h k e =
-    let few = accepted-inside b e .few in
-    sym (fault-none b cleared committed e (omega (arith, few)) (omega (arith, few)))
-fault-first b cleared committed (Refused number place) h k e = sym (fault-book b cleared committed (firstFault b) number place refl e)
 
 module _ (b : List ℕ) where
   -- the lines of the book's own clearing
@@ -73,4 +66,4 @@ module _ (b cleared committed : List ℕ) (answer : Answer) (cleared′ committe
   refusal-reported number place h k e =
       let first = refused-first b cleared committed number place cleared′ committed′ (as-answered (Answer·Refused number place) e) in
       sym (ap (λ (v : Verdict). reportBy v (clearingText b))
-      (sym (fault-first b (length cleared) (length committed) (firstFault b) h k refl) ∙ first))
+      (sym (fault-first b (length cleared) (length committed) h k) ∙ first))
