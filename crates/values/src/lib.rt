@@ -23,13 +23,15 @@ pub enum Verdict {
     Refused(u32, u32),
 }
 
-// The value at a place of a part, given where the bit of this weight is set in the marks.
+// The value at a place of a part, given where the bit of this weight is set in the marks. The bytes are read in either case,
+// so that a row takes one path.
 pub fn value_at(s: &[u8], at: usize, marks: u8, weight: u8) -> Value
     requires { ⌜ (at + 4 ≤ length (now s)) × (0 < weight) ⌝ }
     ensures { λ r. ⌜ r ≡ valueOf (eqb (marks / weight % 2) 1) (u32At (now (s .entry)) at) ⌝ }
 {
+    let number = u32_at(s, at);
     if marks / weight % 2 == 1 {
-        Value::Given(u32_at(s, at))
+        Value::Given(number)
     } else {
         Value::Missing
     }

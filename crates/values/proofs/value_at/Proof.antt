@@ -7,17 +7,17 @@ use Rattle.values.specs.declared.Value.the-variants.{Given}
 use Rattle.values.proofs.value_at.Statement.{statement}
 use Rattle.values.proofs.value_at.Tie as tie
 
-div-if1 : tie.Need-div-if1
-div-if1 c = search needs
-
 u32-at-requires : tie.Need-u32-at-requires
 u32-at-requires c κs = search needs
 
+div-if1 : tie.Need-div-if1
+div-if1 c = search needs
+
 returns : tie.Need-returns
-returns c = simp (eq-eqb _ _ (c .before .if1 .taken)) (ap Given (c .u32-at .ensures .0))
+returns c = simp (eq-eqb _ _ (c .if1 .taken)) (ap Given (c .before .u32-at .ensures .0))
 
 returns-2 : tie.Need-returns-2
 returns-2 c = simp (ne-eqb _ _ (c .if1 .left))
 
 pub value-at-spec : {M : Type 1} → statement M
-value-at-spec = tie.close (tie.spec div-if1 u32-at-requires returns returns-2)
+value-at-spec = tie.close (tie.spec u32-at-requires div-if1 returns returns-2)
