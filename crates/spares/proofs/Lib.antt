@@ -2,6 +2,7 @@ pub mod Tests
 pub mod Winning
 pub mod Steps
 pub mod Parting
+pub mod Closing
 pub mod Rewriting
 pub mod Telling
 pub mod Awarding

@@ -1,7 +1,7 @@
 -- A contest told one key at a time.
 --
 -- In order: who contends and who has won after a key is held to a limit; a key that parts the contenders, told; nothing left
--- to win; one part told after another.
+-- to win; keys that are alike; one part told after another.
 -- Assumes nothing.
 use mathlib.Core.Path.{_≡_, refl, sym, ap, ap₂, _∙_}
 use mathlib.Core.Bool.{Bool, _&&_, _||_, or-assoc, or-false}
@@ -12,12 +12,13 @@ use lib.ListN.{getD}
 use lib.Dec.{ltb, eqb}
 use borrow.Author.Tests.{lt-ltb, le-ltb, eq-eqb, ne-eqb}
 use Rattle.laws.proofs.Cases.{by-equality}
-use Rattle.laws.proofs.Orders.{by-comparison}
+use Rattle.laws.proofs.Orders.{by-comparison, thenBy-equal}
 use Rattle.spares.specs.Contest.{contenders}
 use Rattle.spares.specs.Sieve.{Parts, countUnder, held, keyOf, stands, winners}
+use Rattle.spares.specs.Nearest.{Alike}
 use Rattle.spares.specs.Award.{Rewritten, Sifted, Told}
 use Rattle.spares.proofs.Steps.{level, sift-step}
-use Rattle.spares.proofs.Winning.{wins-contenders, wins-nothing}
+use Rattle.spares.proofs.Winning.{wins-contenders, wins-order, wins-nothing}
 
 -- who contends after a limit contended and has that key
 stands-contends : (x k t : ℕ) → eqb (stands x k t) 1 ≡ eqb x 1 && eqb k t
@@ -78,6 +79,17 @@ told-nothing n spare whole rest entry e =
           ap (λ (b : Bool). winners entry i || b) (wins-nothing _ rest n i ∙ sym (wins-nothing _ whole n i));
       beyond = λ i l. refl;
     })
+
+-- where all keys are alike there is nothing to tell
+pub told-alike : (keys : List ℕ) (n spare : ℕ) (entry : List ℕ) → Alike (keyOf keys) n → Sifted keys n entry spare entry spare
+told-alike keys n spare entry alike rest irreflexive =
+    record {
+      rows = refl;
+      within = λ i l.
+          ap (λ (b : Bool). winners entry i || b)
+          (sym (wins-order _ _ rest n spare i (λ j m. thenBy-equal (keyOf keys) rest j i (alike j m ∙ sym (alike i l)))));
+      beyond = λ i l. refl;
+    }
 
 -- a part told, and then another
 pub told-then : (n : ℕ) (whole part rest : ℕ → ℕ → Bool) (spare some left : ℕ) (entry between exit : List ℕ)

@@ -29,10 +29,10 @@ wins-contenders s t before n spare i h l =
 
 -- where the same rows stand before i, i wins alike
 pub wins-order : (contends : ℕ → Bool) (before after : ℕ → ℕ → Bool) (n spare i : ℕ)
-    → ((j : ℕ) → before j i ≡ after j i) → wins contends before n spare i ≡ wins contends after n spare i
+    → ((j : ℕ) → j < n → before j i ≡ after j i) → wins contends before n spare i ≡ wins contends after n spare i
 unfolding wins
 wins-order contends before after n spare i h =
-    ap (λ (rank : ℕ). contends i && ltb rank spare) (countWhere-within contends _ _ n (λ j l c. h j))
+    ap (λ (rank : ℕ). contends i && ltb rank spare) (countWhere-within contends _ _ n (λ j l c. h j l))
 
 -- where nothing is left no one wins
 pub wins-nothing : (contends : ℕ → Bool) (before : ℕ → ℕ → Bool) (n i : ℕ) → wins contends before n 0 i ≡ false
@@ -50,4 +50,4 @@ pub wins-last : (contends : ℕ → Bool) (key : ℕ → ℕ) (n spare i : ℕ)
     → wins contends (byKey key) n spare i ≡ wins contends (thenBy key noOrder) n spare i
 wins-last contends key n spare i =
     wins-order contends (byKey key) (thenBy key noOrder) n spare i
-    (λ j. simp (and-false, or-false))
+    (λ j l. simp (and-false, or-false))

@@ -2,6 +2,8 @@
 //
 // No sort: for each key a limit is found such that who contends under it wins and who contends at it goes on to the next
 // key. A row stands at 0 where it is out, at 1 where it contends and at 2 where it has won.
+mod count;
+mod keys;
 mod limit;
 
 ghost use mathlib.Core.Path.{_≡_};
@@ -46,10 +48,12 @@ fn sift(keys: &[u32], standings: &mut [u32], n: usize, spare: u32) -> u32
     if spare == 0 {
         return 0;
     }
-    let limit = limit::threshold(keys, standings, n, spare);
-    let won = limit::under(keys, standings, n, limit);
-    hold(keys, standings, n, limit);
-    spare - won
+    if keys::alike(keys, n) {
+        return spare;
+    }
+    let parting = limit::threshold(keys, standings, n, spare);
+    hold(keys, standings, n, parting.limit);
+    spare - parting.won
 }
 
 // What a row receives in the end.

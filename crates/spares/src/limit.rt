@@ -1,80 +1,134 @@
-// The limit to hold a key to: who contends under it wins, and who contends over it does not. It is found by halves, with one
-// count of the contenders for each half.
-ghost use mathlib.Core.Path.{_≡_};
-ghost use mathlib.Core.Bool.{cond, _&&_};
-ghost use Prim.Native.Nat.{_≤_};
-ghost use lib.Dec.{ltb, eqb};
+// The limit to hold a key to: who contends under it wins, and who contends over it does not.
+//
+// It is looked for between two numbers that close in on it. A look counts the contenders under a number between them: in
+// proportion to the counts and at the middle by turns, so that there are few looks where keys are spread evenly and never
+// many.
+use crate::count::under;
+use crate::keys::highest_to;
+use crate::keys::lowest_from;
+ghost use Prim.Native.Nat.{_≤_, _<_};
 ghost use Rattle.spares.specs.Contest.{contenders};
-ghost use Rattle.spares.specs.Sieve.{AtMost, Parts, Rows, countUnder, keyOf};
+ghost use Rattle.spares.specs.Sieve.{Rows, keyOf};
+ghost use Rattle.spares.specs.Search.{Looked, Open, Parted, Between};
 
-// A contender with a key under the limit counts as one.
-fn counted(standing: u32, key: u32, limit: u32) -> u32
-    ensures { λ r. ⌜ (r ≡ cond (eqb standing 1 && ltb key limit) 1 0) × (r ≤ 1) ⌝ }
-{
-    if standing == 1 {
-        if key < limit {
-            return 1;
-        }
-    }
-    0
+// Two numbers, and how many contend under each.
+pub struct Bracket {
+    pub low: u32,
+    pub few: u32,
+    pub high: u32,
+    pub many: u32,
 }
 
-// How many of the first n rows contend with a key under the limit.
-pub fn under(keys: &[u32], standings: &[u32], n: usize, limit: u32) -> u32
+// A limit, and how many contend under it.
+pub struct Parting {
+    pub limit: u32,
+    pub won: u32,
+}
+
+// A part of the room, rounded down.
+fn portion(room: u32, part: u32, whole: u32) -> u32
+    requires { ⌜ (0 < room) × (part < whole) ⌝ }
+    ensures { λ r. ⌜ r < room ⌝ }
+{
+    (room as u64 * part as u64 / whole as u64) as u32
+}
+
+// A number between the two: the middle, or as far from the first as the spare tenths reach of the counts.
+fn probe(b: Bracket, spare: u32, halve: bool) -> u32
+    requires { ⌜ Open spare b ⌝ }
+    ensures { λ r. ⌜ (b .low < r) × (r < b .high) ⌝ }
+{
+    let room = b.high - b.low - 1;
+    if halve {
+        return b.low + 1 + room / 2;
+    }
+    let part = 2 * (spare - b.few) - 1;
+    let whole = 2 * (b.many - b.few);
+    b.low + 1 + portion(room, part, whole)
+}
+
+// Counts the contenders under a number between the two, which takes the place of one of them.
+fn look(keys: &[u32], standings: &[u32], n: usize, spare: u32, b: Bracket, mid: u32) -> Bracket
     requires { ⌜ Rows (now keys) (now standings) n ⌝ }
-    ensures { λ r. ⌜ r ≡ countUnder (contenders (now (standings .entry))) (keyOf (now (keys .entry))) limit n ⌝ }
+    requires { ⌜ Between (contenders (now standings)) (keyOf (now keys)) n spare b ⌝ }
+    requires { ⌜ (b .low ≤ mid) × (mid ≤ b .high) ⌝ }
+    ensures { λ r. ⌜ Looked (contenders (now (standings .entry))) (keyOf (now (keys .entry))) n spare b mid r ⌝ }
 {
-    let mut count: u32 = 0;
-    let mut i: usize = 0;
-    while i < n {
-        count += counted(standings[i], keys[i], limit);
-        i += 1;
+    let count = under(keys, standings, n, mid);
+    if count <= spare {
+        return Bracket {
+            low: mid,
+            few: count,
+            high: b.high,
+            many: b.many,
+        };
     }
-    count
+    Bracket {
+        low: b.low,
+        few: b.few,
+        high: mid,
+        many: count,
+    }
 }
 
-// The higher of a number and a key.
-fn raised(high: u32, key: u32) -> u32
-    ensures { λ r. ⌜ (high ≤ r) × (key ≤ r) ⌝ }
-{
-    if high < key { key } else { high }
-}
-
-// A number that no key passes, a contender's or not: so the loop has one test and runs in lanes.
-fn highest(keys: &[u32], standings: &[u32], n: usize) -> u32
+// Looks at a number between the two. Where as many contend between them as before, it looks beside the nearest key too.
+fn turn(keys: &[u32], standings: &[u32], n: usize, spare: u32, b: Bracket, mid: u32) -> Bracket
     requires { ⌜ Rows (now keys) (now standings) n ⌝ }
-    ensures { λ r. ⌜ AtMost (contenders (now (standings .entry))) (keyOf (now (keys .entry))) n r ⌝ }
+    requires { ⌜ Between (contenders (now standings)) (keyOf (now keys)) n spare b ⌝ }
+    requires { ⌜ (b .low ≤ mid) × (mid ≤ b .high) ⌝ }
+    ensures { λ r. ⌜ Looked (contenders (now (standings .entry))) (keyOf (now (keys .entry))) n spare b mid r ⌝ }
 {
-    let mut high: u32 = 0;
-    let mut i: usize = 0;
-    while i < n {
-        high = raised(high, keys[i]);
-        i += 1;
+    let a = look(keys, standings, n, spare, b, mid);
+    if a.many - a.few < b.many - b.few {
+        return a;
     }
-    high
+    if b.low < a.low {
+        let low = lowest_from(keys, n, a.low, a.high);
+        let from = Bracket {
+            low,
+            few: a.few,
+            high: a.high,
+            many: a.many,
+        };
+        return look(keys, standings, n, spare, from, low + 1);
+    }
+    let top = highest_to(keys, n, a.low, a.high - 1);
+    let to = Bracket {
+        low: a.low,
+        few: a.few,
+        high: top + 1,
+        many: a.many,
+    };
+    look(keys, standings, n, spare, to, top)
 }
 
 // A key such that who contends under it wins and who contends over it does not.
-pub fn threshold(keys: &[u32], standings: &[u32], n: usize, spare: u32) -> u32
+pub fn threshold(keys: &[u32], standings: &[u32], n: usize, spare: u32) -> Parting
     requires { ⌜ Rows (now keys) (now standings) n ⌝ }
-    ensures { λ r. ⌜ Parts (contenders (now (standings .entry))) (keyOf (now (keys .entry))) n spare r ⌝ }
+    ensures { λ r. ⌜ Parted (contenders (now (standings .entry))) (keyOf (now (keys .entry))) n spare r ⌝ }
 {
-    let mut high = highest(keys, standings, n);
-    if under(keys, standings, n, high) <= spare {
-        return high;
+    let high = highest_to(keys, n, 0, u32::MAX);
+    let many = under(keys, standings, n, high);
+    if many <= spare {
+        return Parting {
+            limit: high,
+            won: many,
+        };
     }
-    let mut low: u32 = 0;
-    while 1 < high - low {
-        let mid = high - (high - low) / 2;
-        let count = under(keys, standings, n, mid);
-        if count == spare {
-            return mid;
-        }
-        if count < spare {
-            low = mid;
-        } else {
-            high = mid;
-        }
+    let mut b = Bracket {
+        low: lowest_from(keys, n, 0, high),
+        few: 0,
+        high,
+        many,
+    };
+    let mut halve = false;
+    while b.few < spare && 1 < b.high - b.low {
+        let mid = probe(b, spare, halve);
+        b = turn(keys, standings, n, spare, b, mid);
+        halve = !halve;
     }
-    low
+    Parting {
+        limit: b.low,
+        won: b.few,
+    }
 }

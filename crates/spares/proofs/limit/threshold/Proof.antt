@@ -1,65 +1,86 @@
--- `threshold` finds a key that parts the contenders, by halves. The loop's invariant: at most `spare` contend under `low`, and
--- more do under `high`.
+-- `threshold` finds a key that parts the contenders. The loop's invariant: at most `spare` contend under the first of two
+-- numbers, and more under the second.
 -- Assumes nothing.
-use Prim.Native.Nat.{_≤_, _<_, _-_}
+use Prim.Native.Nat.{_-_, _<_}
 use native.Mathlib.Omega.{arith}
 use borrow.Author.Needs.{needs}
+use borrow.Author.Tests.{ltb-true, ltb-false}
 use Rattle.spares.specs.Contest.{contenders}
-use Rattle.spares.specs.Sieve.{countUnder, keyOf}
-use Rattle.spares.proofs.Parting.{under-zero, parts-top, parts-exact, parts-next}
+use Rattle.spares.specs.Sieve.{keyOf}
+use Rattle.spares.specs.Search.{Between}
+use Rattle.spares.proofs.Parting.{parts-top}
+use Rattle.spares.proofs.Closing.{begun, found-exact, found-next}
 use Rattle.spares.proofs.limit.threshold.Statement.{statement}
 use Rattle.spares.proofs.limit.threshold.Tie as tie
 
 abbrev Inv-loop : tie.InvT-loop
-Inv-loop keys standings n spare high₀ low₀ high low =
-    (low ≤ high)
-    × (countUnder (contenders standings) (keyOf keys) low n ≤ spare)
-    × (spare < countUnder (contenders standings) (keyOf keys) high n)
+Inv-loop keys standings n spare high many b₀ halve₀ b halve = Between (contenders standings) (keyOf keys) n spare b
 
 abbrev μ-loop : tie.MeasureT-loop
-μ-loop keys standings n spare high₀ low₀ high low = high - low
+μ-loop keys standings n spare high many b₀ halve₀ b halve = b .high - b .low
 
-highest-requires : tie.Need-highest-requires Inv-loop μ-loop
-highest-requires c κs = search needs
+highest-to-requires : tie.Need-highest-to-requires Inv-loop μ-loop
+highest-to-requires c κs = search needs
 
 under-requires : tie.Need-under-requires Inv-loop μ-loop
 under-requires c κs = search needs
 
 returns : tie.Need-returns Inv-loop μ-loop
-returns c = parts-top _ _ _ _ _ (c .before .before .highest .ensures) (omega arith)
+returns c =
+    let counted = c .before in
+    let highest = counted .before in
+    let known = highest .before .before .shared-slice-known in
+    record {
+      parts =
+          parts-top _ _ _ _ _
+          (λ i l. highest .highest-to .ensures .none i l (omega (arith, known .given i)))
+          (omega (arith, counted .under .ensures .0));
+      won = counted .under .ensures .0;
+    }
+
+lowest-from-requires : tie.Need-lowest-from-requires Inv-loop μ-loop
+lowest-from-requires c κs = search needs
 
 loop-holds : tie.Need-loop-holds Inv-loop μ-loop
-loop-holds c = (omega arith, rw under-zero (omega arith), omega arith)
+loop-holds c =
+    let counted = c .before .before .under .ensures in
+    begun _ _ _ _ _ _ _ (λ i l. c .lowest-from .ensures .none i l (omega arith)) (counted .0) (c .before .if1 .left) (counted .1)
 
-sub-loop : tie.Need-sub-loop Inv-loop μ-loop
-sub-loop c = search needs
+sub-if3 : tie.Need-sub-if3 Inv-loop μ-loop
+sub-if3 c = search needs
 
-sub-mid : tie.Need-sub-mid Inv-loop μ-loop
-sub-mid c = search needs
+probe-requires : tie.Need-probe-requires Inv-loop μ-loop
+probe-requires c κs =
+    let b = c .before .before .before .before .loop .b in
+    let room : 1 < b .high - b .low = ltb-true 1 _ (c .if3 .taken) in
+    let between = c .before .before .before .before .loop .inv in
+    record {
+      some = c .before .before .if2 .taken;
+      short = between .short;
+      book = between .book;
+      room = omega arith;
+    }
 
-sub-mid-2 : tie.Need-sub-mid-2 Inv-loop μ-loop
-sub-mid-2 c = search needs
-
-under-requires-2 : tie.Need-under-requires-2 Inv-loop μ-loop
-under-requires-2 c κs = search needs
-
-returns-2 : tie.Need-returns-2 Inv-loop μ-loop
-returns-2 c = parts-exact _ _ _ _ _ (omega arith)
+turn-requires : tie.Need-turn-requires Inv-loop μ-loop
+turn-requires c κs = (search needs, (c .before .before .before .before .before .loop .inv, omega (arith, c .probe .ensures)))
 
 loop-less : tie.Need-loop-less Inv-loop μ-loop
-loop-less c = search needs
+loop-less c =
+    let inside = c .before .probe .ensures in
+    omega (arith, c .turn .ensures .nearer (inside .0) (inside .1), c .before .before .before .before .before .before .loop .inv .ordered)
 
 loop-again : tie.Need-loop-again Inv-loop μ-loop
-loop-again c = search needs
+loop-again c = c .turn .ensures .between
 
-loop-less-2 : tie.Need-loop-less-2 Inv-loop μ-loop
-loop-less-2 c = search needs
-
-loop-again-2 : tie.Need-loop-again-2 Inv-loop μ-loop
-loop-again-2 c = search needs
+returns-2 : tie.Need-returns-2 Inv-loop μ-loop
+returns-2 c =
+    let between = c .before .before .before .before .loop .inv in
+    record { parts = found-next _ _ _ _ _ between (ltb-false 1 _ (c .if3 .left)); won = between .few }
 
 returns-3 : tie.Need-returns-3 Inv-loop μ-loop
-returns-3 c = parts-next _ _ _ _ _ _ (omega arith) (c .before .loop .inv .1) (c .before .loop .inv .2)
+returns-3 c =
+    let between = c .before .before .loop .inv in
+    record { parts = found-exact _ _ _ _ _ between (omega arith); won = between .few }
 
 pub threshold-spec : {M : Type 1} → statement M
 threshold-spec =
@@ -67,17 +88,15 @@ threshold-spec =
     (tie.spec
     Inv-loop
     μ-loop
-    highest-requires
+    highest-to-requires
     under-requires
     returns
+    lowest-from-requires
     loop-holds
-    sub-loop
-    sub-mid
-    sub-mid-2
-    under-requires-2
-    returns-2
+    sub-if3
+    probe-requires
+    turn-requires
     loop-less
     loop-again
-    loop-less-2
-    loop-again-2
+    returns-2
     returns-3)

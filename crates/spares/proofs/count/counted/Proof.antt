@@ -2,8 +2,8 @@
 -- Assumes nothing.
 use native.Mathlib.Omega.{arith}
 use borrow.Author.Tests.{eq-eqb, ne-eqb, lt-ltb, le-ltb}
-use Rattle.spares.proofs.limit.counted.Statement.{statement}
-use Rattle.spares.proofs.limit.counted.Tie as tie
+use Rattle.spares.proofs.count.counted.Statement.{statement}
+use Rattle.spares.proofs.count.counted.Tie as tie
 
 returns : tie.Need-returns
 returns c = (rw (eq-eqb _ _ (c .before .if1 .taken), lt-ltb _ _ (c .if2 .taken)), omega arith)

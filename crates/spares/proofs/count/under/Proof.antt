@@ -8,8 +8,8 @@ use Rattle.laws.specs.Sum.{sumWhere, countWhere}
 use Rattle.laws.proofs.Loops.{added-none, added-more}
 use Rattle.spares.specs.Contest.{contenders}
 use Rattle.spares.specs.Sieve.{countUnder, keyOf}
-use Rattle.spares.proofs.limit.under.Statement.{statement}
-use Rattle.spares.proofs.limit.under.Tie as tie
+use Rattle.spares.proofs.count.under.Statement.{statement}
+use Rattle.spares.proofs.count.under.Tie as tie
 
 abbrev Inv-loop : tie.InvT-loop
 Inv-loop keys standings n limit count₀ i₀ count i = (i ≤ n) × (count ≡ countUnder (contenders standings) (keyOf keys) limit i) × (count ≤ i)
@@ -50,7 +50,7 @@ unfolding countUnder countWhere sumWhere
 loop-again c = (omega arith, added-more _ _ (c .before .before .before .before .loop .inv .1) (c .counted .ensures .0), omega arith)
 
 returns : tie.Need-returns Inv-loop μ-loop
-returns c = c .before .loop .inv .1 ∙ ap (countUnder _ _ _) (omega arith)
+returns c = (c .before .loop .inv .1 ∙ ap (countUnder _ _ _) (omega arith), omega arith)
 
 pub under-spec : {M : Type 1} → statement M
 under-spec =
