@@ -3,10 +3,9 @@ use columns::read_columns;
 use curve::Curve;
 use curve::Terms;
 use curve::points_2026;
-use market::margin::level_of;
 use market::price::ClearingPrice;
 use market::price::clearing_price;
-use market::total::cleared_total;
+use market::total::cleared_level;
 use shares::share_out;
 use units::DollarsPerMwYear;
 use values::head::Parameters;
@@ -59,8 +58,7 @@ pub(crate) fn sell_columns(
     requires { ⌜ n ≤ length (now amounts) ⌝ }
     ensures { λ r. ⌜ SoldColumns c (rowsOf (now (prices .entry)) (now (quantities .entry)) (now (highs .entry)) (now (lows .entry)) (now (resources .entry)) n) (now (amounts .entry)) r (now (amounts .exit)) ⌝ }
 {
-    let total = cleared_total(c, prices, quantities, n);
-    let level = level_of(prices, quantities, n, total);
+    let level = cleared_level(c, prices, quantities, n);
     share_out(
         prices,
         quantities,
@@ -72,7 +70,7 @@ pub(crate) fn sell_columns(
         amounts,
     );
     Sale {
-        total,
+        total: level.total,
         price: clearing_price(c, level),
     }
 }
