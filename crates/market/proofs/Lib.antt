@@ -1,2 +1,4 @@
 pub mod Stops
 pub mod Agree
+pub mod Narrowing
+pub mod Stopping

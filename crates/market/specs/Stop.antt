@@ -1,6 +1,6 @@
 -- The price level at which a total stops.
 -- Assumes nothing.
-use Prim.Native.Nat.{ℕ}
+use Prim.Native.Nat.{ℕ, _-_, min}
 use mathlib.Core.Path.{_≡_}
 use lib.Dec.{leb}
 use Rattle.laws.specs.Largest.{largest}
@@ -22,3 +22,11 @@ pub record StopsAt (o : Offers) (x : ℕ) (l : Level) : Type 0 where
   pub sum : l .sum ≡ levelSum o (l .price)
   -- what is offered at the level or below
   pub reach : l .reach ≡ supply o (l .price)
+
+-- a level at the price p at which the total x stops, where `below` is offered strictly below p, and `upTo` at p or below
+pub record Parted (x p below upTo : ℕ) (l : Level) : Type 0 where
+  pub total : l .total ≡ x
+  pub price : l .price ≡ p
+  pub amount : l .amount ≡ min (x - below) (upTo - below)
+  pub sum : l .sum ≡ upTo - below
+  pub reach : l .reach ≡ upTo

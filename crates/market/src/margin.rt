@@ -4,7 +4,6 @@ ghost use mathlib.Core.Path.{_≡_};
 ghost use Prim.Native.Nat.{_≤_};
 ghost use Rattle.auction.specs.Offers.{supplyBelow};
 ghost use Rattle.market.specs.Rows.{Rows, listed};
-ghost use Rattle.market.specs.Stop.{stopLevel, StopsAt};
 
 // The level at which a total stops: the total, the level's price, what it receives of the total, what is offered at it,
 // and what is offered at it or below.
@@ -25,41 +24,4 @@ pub fn supply_below(prices: &[u32], quantities: &[u32], n: usize, price: u32) ->
         return 0;
     }
     supply_at(prices, quantities, n, price - 1)
-}
-
-// The highest price up to 1,000,000 under which no more than x is offered, by bisection.
-pub fn stop_level(prices: &[u32], quantities: &[u32], n: usize, x: u32) -> u32
-    requires { ⌜ Rows (now prices) (now quantities) n ⌝ }
-    ensures { λ r. ⌜ (r ≡ stopLevel (listed (now (prices .entry)) (now (quantities .entry)) n) x) × (r ≤ 1000000) ⌝ }
-{
-    let mut low: u32 = 0;
-    let mut high: u32 = 1000000;
-    while low < high {
-        let middle = high - (high - low) / 2;
-        if supply_at(prices, quantities, n, middle - 1) <= x {
-            low = middle;
-        } else {
-            high = middle - 1;
-        }
-    }
-    low
-}
-
-// The level at which the total x stops.
-pub fn level_of(prices: &[u32], quantities: &[u32], n: usize, x: u32) -> Level
-    requires { ⌜ Rows (now prices) (now quantities) n ⌝ }
-    ensures { λ r. ⌜ StopsAt (listed (now (prices .entry)) (now (quantities .entry)) n) x r ⌝ }
-{
-    let price = stop_level(prices, quantities, n, x);
-    let below = supply_below(prices, quantities, n, price);
-    let reach = supply_at(prices, quantities, n, price);
-    let sum = reach - below;
-    let room = x - below;
-    Level {
-        total: x,
-        price,
-        amount: if room < sum { room } else { sum },
-        sum,
-        reach,
-    }
 }

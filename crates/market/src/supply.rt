@@ -1,10 +1,13 @@
-// What is offered at a price or below.
+// What is offered at a price or below, and the next price at which something is.
+use std::num::wrapping_sub_u32;
 ghost use mathlib.Core.Path.{_≡_};
 ghost use mathlib.Core.Bool.{cond};
-ghost use Prim.Native.Nat.{_≤_};
+ghost use Prim.Native.Nat.{min, _≤_};
 ghost use lib.Dec.{leb};
+ghost use lib.ListN.{length};
 ghost use Rattle.auction.specs.Offers.{supply};
 ghost use Rattle.market.specs.Rows.{Rows, listed};
+ghost use Rattle.market.specs.Bracket.{NoneBefore};
 
 // A row's quantity where its price is at or below the limit, and else nothing.
 fn taken(price: u32, quantity: u32, limit: u32) -> u32
@@ -23,4 +26,24 @@ pub fn supply_at(prices: &[u32], quantities: &[u32], n: usize, limit: u32) -> u3
         sum += taken(prices[row], quantities[row], limit);
     }
     sum
+}
+
+// The lesser of two numbers.
+pub(crate) fn lesser(a: u32, b: u32) -> u32
+    ensures { λ r. ⌜ r ≡ min a b ⌝ }
+{
+    if b < a { b } else { a }
+}
+
+// The lowest price of a row at `from` or over it, or 1,000,000. The difference to a price below `from` wraps round to more
+// than any other, so that this loop runs in lanes too.
+pub(crate) fn next_price(prices: &[u32], n: usize, from: u32) -> u32
+    requires { ⌜ (n ≤ length (now prices)) × (from ≤ 1000000) ⌝ }
+    ensures { λ r. ⌜ NoneBefore (now (prices .entry)) n from r ⌝ }
+{
+    let mut step: u32 = 1000000 - from;
+    for row in 0..n {
+        step = lesser(step, wrapping_sub_u32(prices[row], from));
+    }
+    from + step
 }

@@ -1,29 +1,94 @@
-// The cleared total.
+// The cleared total, and the level at which it stops.
+use crate::aim::tenths_at;
+use crate::bracket::Bracket;
+use crate::bracket::narrow;
+use crate::bracket::narrowed;
+use crate::margin::Level;
+use crate::supply::lesser;
+use crate::supply::next_price;
 use crate::supply::supply_at;
 use curve::Curve;
 use curve::tenth_price;
 ghost use mathlib.Core.Path.{_≡_};
-ghost use Prim.Native.Nat.{_≤_};
+ghost use Prim.Native.Nat.{_≤_, _<_};
 ghost use Rattle.auction.specs.Clearing.{clearedTotal};
 ghost use Rattle.curve.specs.Shape.{Shaped};
 ghost use Rattle.curve.specs.Price.{demandOf};
+ghost use Rattle.market.specs.Bracket.{Reaches};
 ghost use Rattle.market.specs.Rows.{Rows, listed};
+ghost use Rattle.market.specs.Stop.{StopsAt, Parted};
 
-// X: the largest quantity that the offers at or below the curve price there can supply, by a search by halves.
-pub fn cleared_total(c: Curve, prices: &[u32], quantities: &[u32], n: usize) -> u32
-    requires { ⌜ Shaped c × Rows (now prices) (now quantities) n ⌝ }
-    ensures { λ r. ⌜ (r ≡ clearedTotal (demandOf c) (listed (now (prices .entry)) (now (quantities .entry)) n)) × (r ≤ c .q3) ⌝ }
+// A guess where it lies past `low` and up to `high`, and else the nearest number that does.
+fn inside(guess: u32, low: u32, high: u32) -> u32
+    requires { ⌜ low < high ⌝ }
+    ensures { λ r. ⌜ (low < r) × (r ≤ high) ⌝ }
 {
-    let mut low: u32 = 0;
-    let mut high: u32 = c.q3;
+    if guess <= low {
+        low + 1
+    } else {
+        lesser(guess, high)
+    }
+}
+
+// The largest quantity from `below` to `top` at which the curve asks the price or more, or `below`.
+fn reached(c: Curve, price: u32, below: u32, top: u32) -> u32
+    requires { ⌜ Shaped c × (below ≤ top) × (top ≤ c .q3) ⌝ }
+    ensures { λ r. ⌜ Reaches c price below top r r ⌝ }
+{
+    let guess = tenths_at(c, price);
+    let mut low = below;
+    let mut high = top;
     while low < high {
-        let middle = high - (high - low) / 2;
-        let price = tenth_price(c, middle);
-        if middle <= supply_at(prices, quantities, n, price.0) {
-            low = middle;
+        let tenths = inside(guess, low, high);
+        let bid = tenth_price(c, tenths);
+        if price <= bid.0 {
+            low = tenths;
         } else {
-            high = middle - 1;
+            high = tenths - 1;
         }
     }
     low
+}
+
+// A level of which so much is offered below it and up to it, and at which the total stops.
+fn level(total: u32, price: u32, below: u32, reach: u32) -> Level
+    requires { ⌜ (below ≤ total) × (below ≤ reach) ⌝ }
+    ensures { λ r. ⌜ Parted total price below reach r ⌝ }
+{
+    Level {
+        total,
+        price,
+        amount: lesser(total - below, reach - below),
+        sum: reach - below,
+        reach,
+    }
+}
+
+// The cleared total and the level at which it stops. Narrowed prices are followed by the next price of an offer: with what is
+// offered below it and at it, the curve tells whether the total stops there.
+pub fn cleared_level(c: Curve, prices: &[u32], quantities: &[u32], n: usize) -> Level
+    requires { ⌜ Shaped c × Rows (now prices) (now quantities) n ⌝ }
+    ensures { λ r. ⌜ StopsAt (listed (now (prices .entry)) (now (quantities .entry)) n) (clearedTotal (demandOf c) (listed (now (prices .entry)) (now (quantities .entry)) n)) r × (r .total ≤ c .q3) ⌝ }
+{
+    let p1 = c.p1;
+    let whole = Bracket {
+        from: 0,
+        below: 0,
+        cap: p1.0 + 1,
+        over: 0,
+    };
+    let mut at = narrowed(c, prices, quantities, n, whole, p1.0);
+    let mut few = at.over / (n as u32 + 1);
+    loop {
+        at = narrow(c, prices, quantities, n, at, few);
+        let price = next_price(prices, n, at.from);
+        let reach = supply_at(prices, quantities, n, price);
+        let total = reached(c, price, at.below, lesser(reach, c.q3));
+        if total < reach || price == 1000000 {
+            return level(total, price, at.below, reach);
+        }
+        at.from = price + 1;
+        at.below = reach;
+        few /= 2;
+    }
 }

@@ -1,9 +1,8 @@
 // What rows sell on a curve: the total, the price, and each row's amount.
 use curve::Curve;
-use market::margin::level_of;
 use market::price::ClearingPrice;
 use market::price::clearing_price;
-use market::total::cleared_total;
+use market::total::cleared_level;
 use shares::share_out;
 ghost use Prim.Native.Nat.{_≤_};
 ghost use lib.ListN.{length};
@@ -36,11 +35,10 @@ pub(crate) fn sell(
     requires { ⌜ n ≤ length (now amounts) ⌝ }
     ensures { λ r. ⌜ SoldColumns c (rowsOf (now (prices .entry)) (now (quantities .entry)) (highsOf (now (book .entry)) n) (lowsOf (now (book .entry)) n) (now (resources .entry)) n) (now (amounts .entry)) r (now (amounts .exit)) ⌝ }
 {
-    let total = cleared_total(c, prices, quantities, n);
-    let level = level_of(prices, quantities, n, total);
+    let level = cleared_level(c, prices, quantities, n);
     share_out(book, prices, quantities, resources, n, level, amounts);
     Sale {
-        total,
+        total: level.total,
         price: clearing_price(c, level),
     }
 }

@@ -1,0 +1,62 @@
+-- `market::bracket::narrow` narrows a bracket. The loop's invariant: it is a bracket still, and no lower.
+-- Assumes nothing.
+use Prim.Native.Nat.{_-_, _≤_}
+use Rattle.market.specs.Bracket.{Under}
+use Rattle.market.specs.Rows.{listed}
+use borrow.Author.Needs.{needs}
+use Rattle.market.proofs.bracket.narrow.Statement.{statement}
+use Rattle.market.proofs.bracket.narrow.Tie as tie
+
+abbrev Inv-loop : tie.InvT-loop
+Inv-loop c prices quantities n few at₀ middle₀ idle₀ at middle idle =
+    Under c (listed prices quantities n) at × (at₀ .from ≤ at .from)
+
+abbrev μ-loop : tie.MeasureT-loop
+μ-loop c prices quantities n few at₀ middle₀ idle₀ at middle idle = at .cap - at .from
+
+loop-holds : tie.Need-loop-holds Inv-loop μ-loop
+loop-holds c = search needs
+
+close-requires : tie.Need-close-requires Inv-loop μ-loop
+close-requires c κs = search needs
+
+returns : tie.Need-returns Inv-loop μ-loop
+returns c = search needs
+
+aim-requires : tie.Need-aim-requires Inv-loop μ-loop
+aim-requires c κs = search needs
+
+narrowed-requires : tie.Need-narrowed-requires Inv-loop μ-loop
+narrowed-requires c κs = search needs
+
+as-before-requires : tie.Need-as-before-requires Inv-loop μ-loop
+as-before-requires c κs = search needs
+
+returns-2 : tie.Need-returns-2 Inv-loop μ-loop
+returns-2 c = search needs
+
+loop-less : tie.Need-loop-less Inv-loop μ-loop
+loop-less c = search needs
+
+loop-again : tie.Need-loop-again Inv-loop μ-loop
+loop-again c = search needs
+
+returns-3 : tie.Need-returns-3 Inv-loop μ-loop
+returns-3 c = search needs
+
+pub narrow-spec : {M : Type 1} → statement M
+narrow-spec =
+    tie.close
+    (tie.spec
+    Inv-loop
+    μ-loop
+    loop-holds
+    close-requires
+    returns
+    aim-requires
+    narrowed-requires
+    as-before-requires
+    returns-2
+    loop-less
+    loop-again
+    returns-3)

@@ -1,0 +1,142 @@
+-- `market::total::cleared_level` is the level at which the cleared total stops. The loop's invariant: the total is no less than
+-- what is offered below the bracket.
+-- Assumes nothing.
+use mathlib.Core.Path.{_≡_, sym, _∙_}
+use mathlib.Core.Logic.{⊎-elim}
+use Prim.Native.Nat.{_-_, _≤_, _<_}
+use borrow.Author.Tests.{eqb-true, eqb-false}
+use Rattle.auction.specs.Offers.{Offers, supplyBelow}
+use native.Mathlib.Omega.{arith}
+use Rattle.market.specs.Bracket.{Under}
+use Rattle.market.specs.Rows.{listed}
+use Rattle.market.proofs.Narrowing.{under-whole}
+use Rattle.market.proofs.Stopping.{below-clear, below-reach, reached-all, reached-stops}
+use borrow.Author.Needs.{needs}
+use Rattle.market.proofs.total.cleared_level.Statement.{statement}
+use Rattle.market.proofs.total.cleared_level.Tie as tie
+
+abbrev Inv-loop : tie.InvT-loop
+Inv-loop c prices quantities n at₀ few₀ at few = Under c (listed prices quantities n) at
+
+abbrev μ-loop : tie.MeasureT-loop
+μ-loop c prices quantities n at₀ few₀ at few = 1000000 - at .from
+
+-- the offers of the rows, at the place where the next price is known
+abbrev offers : tie.After-supply-at Inv-loop μ-loop → Offers
+offers c =
+    let a = c .before .before .before .before .before .before .before .before .before .before .args in
+    listed (a .prices .now) (a .quantities .now) (a .n)
+
+-- no more is offered below the next price than below the bracket
+same : (c : tie.After-supply-at Inv-loop μ-loop)
+    → supplyBelow (offers c) (c .before .next-price .result) ≡ c .before .before .narrow .result .below
+same c =
+    let next = c .before .next-price .ensures in
+    below-clear (offers c) _ _ (next .low) (next .none) ∙ sym (c .before .before .narrow .ensures .0 .below)
+
+-- and no less at it
+upto : (c : tie.After-supply-at Inv-loop μ-loop) → c .before .before .narrow .result .below ≤ c .supply-at .result
+upto c = below-reach (offers c) _ _ _ (same c) (c .supply-at .ensures .0)
+
+add-few : tie.Need-add-few Inv-loop μ-loop
+add-few c = search needs
+
+narrowed-requires : tie.Need-narrowed-requires Inv-loop μ-loop
+narrowed-requires c κs =
+    let start = c .before .before .before .before in
+    ((start .pre .0, start .pre .1, under-whole _ _ _ _ (omega arith)), (omega arith, omega arith))
+
+cast-few : tie.Need-cast-few Inv-loop μ-loop
+cast-few c = search needs
+
+add-few-2 : tie.Need-add-few-2 Inv-loop μ-loop
+add-few-2 c = search needs
+
+div-few : tie.Need-div-few Inv-loop μ-loop
+div-few c = search needs
+
+loop-holds : tie.Need-loop-holds Inv-loop μ-loop
+loop-holds c = search needs
+
+narrow-requires : tie.Need-narrow-requires Inv-loop μ-loop
+narrow-requires c κs = search needs
+
+next-price-requires : tie.Need-next-price-requires Inv-loop μ-loop
+next-price-requires c κs = search needs
+
+supply-at-requires : tie.Need-supply-at-requires Inv-loop μ-loop
+supply-at-requires c κs = search needs
+
+lesser-requires : tie.Need-lesser-requires Inv-loop μ-loop
+lesser-requires c κs = search needs
+
+reached-requires : tie.Need-reached-requires Inv-loop μ-loop
+reached-requires c κs =
+    let start = c .before .before .before .before .before .before .before .before .before .before .before in
+    (start .pre .0, omega (arith, upto (c .before)), omega arith)
+
+level-requires : tie.Need-level-requires Inv-loop μ-loop
+level-requires c κs = (c .before .reached .ensures .start, upto (c .before .before .before))
+
+-- where the search ends, less than all that is offered up to the price clears, or there is no higher price
+stop : (c : tie.After-level Inv-loop μ-loop)
+    → c .before .before .before .before .before .next-price .result < 1000000
+    → c .before .before .reached .result < c .before .before .before .before .supply-at .result
+stop c l =
+    let price = c .before .before .before .before .before .next-price .result in
+    ⊎-elim (λ w. w .taken) (λ w. absurd (omega (arith, eqb-true price 1000000 (w .1 .taken)))) (c .before .if1 .came)
+
+returns : tie.Need-returns Inv-loop μ-loop
+returns c =
+    let at = c .before .before in
+    let start = at .before .before .before .before .before .before .before .before .before .before .before .before in (
+      reached-stops _ (offers (at .before .before)) (start .pre .0) _ (at .before .before .before .before .narrow .ensures .0) _ _ _
+          (same (at .before .before)) (at .before .before .supply-at .ensures .0) (rw (at .before .lesser .ensures) at (at .reached .ensures))
+          (at .before .before .before .next-price .ensures .high) (stop c) _ (c .level .ensures),
+      omega (arith, c .level .ensures .total),
+    )
+
+-- where it goes on, there is a higher price
+under-most : (c : tie.Else2 Inv-loop μ-loop) → c .before .before .before .before .before .next-price .result < 1000000
+under-most c =
+    let next = c .before .before .before .before .before .next-price in
+    omega (arith, next .ensures .high, eqb-false (next .result) 1000000 (c .if2 .left))
+
+add-at : tie.Need-add-at Inv-loop μ-loop
+add-at c = search needs
+
+loop-less : tie.Need-loop-less Inv-loop μ-loop
+loop-less c =
+    let at = c .before .before .before .before .before in
+    omega (arith, under-most c, at .next-price .ensures .low, at .before .narrow .ensures .1)
+
+loop-again : tie.Need-loop-again Inv-loop μ-loop
+loop-again c =
+    let at = c .before .before in
+    let start = at .before .before .before .before .before .before .before .before .before .before .before .before in
+    reached-all _ (offers (at .before .before)) (start .pre .0) _ (at .before .before .before .before .narrow .ensures .0) _ _ _
+    (same (at .before .before)) (at .before .before .supply-at .ensures .0) (rw (at .before .lesser .ensures) at (at .reached .ensures))
+    (c .before .if1 .left) (under-most c)
+
+pub cleared-level-spec : {M : Type 1} → statement M
+cleared-level-spec =
+    tie.close
+    (tie.spec
+    Inv-loop
+    μ-loop
+    add-few
+    narrowed-requires
+    cast-few
+    add-few-2
+    div-few
+    loop-holds
+    narrow-requires
+    next-price-requires
+    supply-at-requires
+    lesser-requires
+    reached-requires
+    level-requires
+    returns
+    add-at
+    loop-less
+    loop-again)

@@ -1,0 +1,67 @@
+// Where to look next for the price at which the total stops. What is said here is a guess: any price inside would do.
+use crate::bracket::Bracket;
+use curve::Curve;
+ghost use Prim.Native.Nat.{_≤_, _<_};
+ghost use Rattle.curve.specs.Shape.{Shaped};
+
+// The quantity at so much of the whole way from qa to qb.
+fn along(part: u32, whole: u32, qa: u32, qb: u32) -> u32
+    requires { ⌜ (part ≤ whole) × (0 < whole) × (qa ≤ qb) ⌝ }
+    ensures { λ r. ⌜ r ≤ qb ⌝ }
+{
+    let way = part as u64 * (qb - qa) as u64 / whole as u64;
+    qa + way as u32
+}
+
+// How many tenths the curve buys at a price.
+pub(crate) fn tenths_at(c: Curve, price: u32) -> u32
+    requires { ⌜ Shaped c ⌝ }
+    ensures { λ r. ⌜ r ≤ c .q3 ⌝ }
+{
+    let p1 = c.p1;
+    let p2 = c.p2;
+    if p1.0 < price {
+        return 0;
+    }
+    if p2.0 < price {
+        return along(p1.0 - price, p1.0 - p2.0, c.q1, c.q2);
+    }
+    if p2.0 == 0 {
+        return c.q3;
+    }
+    along(p2.0 - price, p2.0, c.q2, c.q3)
+}
+
+// What a quantity lacks of another.
+fn lacking(has: u32, wants: u32) -> u32
+    ensures { λ r. ⌜ r ≤ wants ⌝ }
+{
+    if has < wants { wants - has } else { 0 }
+}
+
+// A price inside a bracket: its middle; or where the offers would meet the curve, if both ran straight from end to end.
+pub(crate) fn aim(c: Curve, b: Bracket, middle: bool) -> u32
+    requires { ⌜ Shaped c × (b .from < b .cap) × (b .cap ≤ 1000000) ⌝ }
+    ensures { λ r. ⌜ (b .from ≤ r) × (r < b .cap) ⌝ }
+{
+    let width = b.cap - b.from;
+    if middle {
+        return b.from + width / 2;
+    }
+    let short = lacking(b.below, tenths_at(c, b.from)) as u64;
+    let long = lacking(tenths_at(c, b.cap), b.over) as u64;
+    let step = width as u64 * short / (short + long + 1);
+    if step < width as u64 {
+        b.from + step as u32
+    } else {
+        b.from
+    }
+}
+
+// The price at which the total stops is close over the bracket's lower end: so few tenths are offered up to its upper end, or
+// are short of what the curve buys at its lower one.
+pub(crate) fn close(c: Curve, b: Bracket, few: u32) -> bool
+    requires { ⌜ Shaped c ⌝ }
+{
+    lacking(b.below, b.over) <= few || lacking(b.below, tenths_at(c, b.from)) <= few
+}

@@ -1,0 +1,101 @@
+// Prices between which the total stops.
+use crate::aim::aim;
+use crate::aim::close;
+use crate::supply::supply_at;
+use curve::Curve;
+use curve::tenth_price;
+ghost use mathlib.Core.Path.{_≡_};
+ghost use mathlib.Core.Bool.{true};
+ghost use Prim.Native.Nat.{_≤_, _<_};
+ghost use Rattle.curve.specs.Shape.{Shaped};
+ghost use Rattle.curve.specs.Price.{tenthPrice};
+ghost use Rattle.market.specs.Rows.{Rows, listed};
+ghost use Rattle.market.specs.Bracket.{Under, Narrower};
+
+// A price that the level at which the total stops is not below, with what is offered strictly below it; and a price at which
+// more is offered than the curve buys, with what is offered at it or below.
+pub struct Bracket {
+    pub from: u32,
+    pub below: u32,
+    pub cap: u32,
+    pub over: u32,
+}
+
+// The curve buys a quantity at a price.
+fn bought(c: Curve, quantity: u32, price: u32) -> bool
+    requires { ⌜ Shaped c ⌝ }
+    ensures { λ r. ⌜ (r ≡ true → (quantity ≤ c .q3) × (price ≤ tenthPrice c quantity)) ⌝ }
+{
+    if c.q3 < quantity {
+        return false;
+    }
+    let bid = tenth_price(c, quantity);
+    price <= bid.0
+}
+
+// The bracket on one side of a price inside it.
+pub(crate) fn narrowed(
+    c: Curve,
+    prices: &[u32],
+    quantities: &[u32],
+    n: usize,
+    b: Bracket,
+    price: u32,
+) -> Bracket
+    requires { ⌜ Shaped c × Rows (now prices) (now quantities) n × Under c (listed (now prices) (now quantities) n) b ⌝ }
+    requires { ⌜ (b .from ≤ price) × (price < b .cap) ⌝ }
+    ensures { λ r. ⌜ Under c (listed (now (prices .entry)) (now (quantities .entry)) n) r × Narrower b r ⌝ }
+{
+    let offered = supply_at(prices, quantities, n, price);
+    if bought(c, offered, price) {
+        Bracket {
+            from: price + 1,
+            below: offered,
+            cap: b.cap,
+            over: b.over,
+        }
+    } else {
+        Bracket {
+            from: b.from,
+            below: b.below,
+            cap: price,
+            over: offered,
+        }
+    }
+}
+
+// Both brackets have as much offered below one end and up to the other: no offer was priced between.
+fn as_before(b: Bracket, old: Bracket) -> bool {
+    b.below == old.below && b.over == old.over
+}
+
+// The bracket, narrowed until the level at which the total stops is close, or until two prices in turn have told nothing.
+pub(crate) fn narrow(
+    c: Curve,
+    prices: &[u32],
+    quantities: &[u32],
+    n: usize,
+    b: Bracket,
+    few: u32,
+) -> Bracket
+    requires { ⌜ Shaped c × Rows (now prices) (now quantities) n × Under c (listed (now prices) (now quantities) n) b ⌝ }
+    ensures { λ r. ⌜ Under c (listed (now (prices .entry)) (now (quantities .entry)) n) r × (b .from ≤ r .from) ⌝ }
+{
+    let mut at = b;
+    let mut middle = true;
+    let mut idle = false;
+    while at.from < at.cap {
+        if close(c, at, few) {
+            return at;
+        }
+        let next = narrowed(c, prices, quantities, n, at, aim(c, at, middle || idle));
+        let same = as_before(next, at);
+        if idle && same {
+            return next;
+        }
+        at = next;
+        idle = same;
+        middle = !middle;
+    }
+    at
+}
