@@ -4,14 +4,11 @@
     tests/make_clearings.py            writes crates/clearings/data/*.book, crates/clearings/args and crates/clearings/stdout
     tests/make_clearings.py --check    says whether they are what it would write
 
-Written from the outline alone: it shares nothing with the library. The lines that are expected stand beside each book, worked
-out by hand; ` / ` parts one from the next.
+The lines that are expected stand beside each book, worked out by hand from the outline; ` / ` parts one from the next.
 
 The reference curve falls by 125 cents a tenth from 50,000 at 9,900 to 18,750 at 10,150, then by 62.5 to 0 at 10,450.
 """
-from make_books import HOME as VERDICTS, THREE, book, keep, many, offer
-
-HOME = VERDICTS.parent / "clearings"
+from write_book import CRATES, THREE, book, keep, many, offer
 
 NOTHING = "price - / 21 0 0 0 / daily 0 / year 0"
 UNDER = offer(11, 10_000, 9_900)
@@ -145,17 +142,12 @@ def refused_cases():
     yield "missing-price-in-row-1", book([UNDER, offer(12, None, 200), offer(13, 37_500, 100)]), "refused 6 1"
 
 
-def files():
-    names, printed = [], []
+def cases():
+    """Each book's name, its bytes, and what is printed of it."""
     for part in (reference_cases, curve_cases, tie_cases, block_cases, large_cases, refused_cases):
         for name, data, lines in part():
-            assert name not in names
-            names.append(name)
-            printed.append(f"{name}.book / {lines}\n".replace(" / ", "\n"))
-            yield HOME / "data" / f"{name}.book", data
-    yield HOME / "args", "".join(f"{name}.book\n" for name in names).encode()
-    yield HOME / "stdout", "".join(printed).encode()
+            yield name, data, f"{name}.book / {lines}\n".replace(" / ", "\n")
 
 
 if __name__ == "__main__":
-    keep(HOME, dict(files()))
+    keep(CRATES / "clearings", cases())

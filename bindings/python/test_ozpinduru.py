@@ -8,8 +8,8 @@ from concurrent.futures import ThreadPoolExecutor
 
 ROOT = pathlib.Path(__file__).resolve().parents[2]
 sys.path[:0] = [str(ROOT / "bindings" / "python"), str(ROOT / "tests")]
-from make_books import REFERENCE, THREE, book, many, offer  # noqa: E402
 from ozpinduru import Clearing, Curve, Fault, Offer, Refusal, Row, clear, curve, price_at, row  # noqa: E402
+from write_book import REFERENCE, THREE, book, many, offer  # noqa: E402
 
 ANSWER = Clearing(10_000, 37_500, 637_500, 375_637_500, 137_107_687_500, [Row(9_900, 9_900, 0), Row(67, 67, 0), Row(33, 50, 637_500)])
 
@@ -44,9 +44,9 @@ class Calls(unittest.TestCase):
         self.assertEqual((caught.exception.number, caught.exception.place), (Fault.NO_PRICE, 16))
 
     def test_two_threads(self):
-        books = [book(THREE), book(many(600))] * 50
-        with ThreadPoolExecutor(2) as pool:
-            self.assertEqual(list(pool.map(clear, books)), [clear(data) for data in books])
+        for data in (book(THREE), book(many(600))):
+            with ThreadPoolExecutor(2) as pool:
+                self.assertEqual(list(pool.map(clear, [data] * 50)), [clear(data)] * 50)
 
     def test_curve(self):
         self.assertEqual(curve(**REFERENCE), Curve(50_000, 18_750, 0, 9_900, 10_150, 10_450))

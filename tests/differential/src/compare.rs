@@ -5,12 +5,14 @@ use oracle::random::{Call, Rng};
 use oracle::{limits, Outcome};
 use ozpinduru::{Clearing, Refusal};
 use std::fmt::Debug;
+use std::sync::Barrier;
+use std::thread;
 
-/// Entries that a buffer has past the length that is lent: nothing may be written there.
-const PAST: usize = 16;
+/// One call of so many is made by two threads at once.
+const TWICE: usize = 32;
 
-/// Compares all that a call gives; says whether its book clears.
-pub fn call(call: &Call, seed: u64) -> Result<bool, String> {
+/// Compares all that a call gives; says what the oracle gives.
+pub fn call(call: &Call, seed: u64) -> Result<Outcome, String> {
     let outcome = oracle::clear(&call.book, call.cleared_len, call.committed_len);
     let rng = &mut Rng::new(!seed);
     // The book starts at any address, and no more than its own bytes are lent.
@@ -19,21 +21,43 @@ pub fn call(call: &Call, seed: u64) -> Result<bool, String> {
     room[shift..].copy_from_slice(&call.book);
     let book = &room[shift..];
 
-    cleared(call, book, &outcome)?;
+    // Half of the buffers have entries past the length that is lent, where nothing may be written. The others end with that
+    // length, so that valgrind sees an access past it.
+    let past = rng.pick(&[0, 16]);
+    let compared = || cleared(call, book, past, &outcome);
+    if rng.index(TWICE) == 0 {
+        twice(compared)?;
+    } else {
+        compared()?;
+    }
     let read = book::read(book).ok();
     rows(book, read.as_ref().map_or(&[], |book| &book.offers), rng)?;
     if let Some(read) = &read {
         curve(&read.parameters, rng)?;
     }
     same("whether the book is unchanged", book == call.book, true)?;
-    Ok(matches!(outcome, Outcome::Cleared(_)))
+    Ok(outcome)
+}
+
+/// The same in two threads at once.
+fn twice(compared: impl Fn() -> Result<(), String> + Sync) -> Result<(), String> {
+    let start = Barrier::new(2);
+    let once = || {
+        start.wait();
+        compared()
+    };
+    thread::scope(|threads| {
+        let other = threads.spawn(once);
+        once().and(other.join().expect("a thread that compares"))
+    })
 }
 
 /// The answer, the contents of both buffers and past their ends, and each row's make-whole.
-fn cleared(call: &Call, book: &[u8], outcome: &Outcome) -> Result<(), String> {
-    let (mut cleared, mut committed) = (held(call.cleared_len, 1), held(call.committed_len, 2));
+fn cleared(call: &Call, book: &[u8], past: usize, outcome: &Outcome) -> Result<(), String> {
+    let held = || (held(call.cleared_len + past, 1), held(call.committed_len + past, 2));
+    let (mut cleared, mut committed) = held();
     let answer = ozpinduru::clear(book, &mut cleared[..call.cleared_len], &mut committed[..call.committed_len]);
-    let (mut cleared_due, mut committed_due) = (held(call.cleared_len, 1), held(call.committed_len, 2));
+    let (mut cleared_due, mut committed_due) = held();
     match outcome {
         Outcome::Refused { number, place } => {
             same("the answer", answer.map_err(numbered), Err((*number, *place)))?;
@@ -54,8 +78,8 @@ fn cleared(call: &Call, book: &[u8], outcome: &Outcome) -> Result<(), String> {
 }
 
 /// A buffer's contents before the call: at each entry a number of its own.
-fn held(length: usize, buffer: u32) -> Vec<u32> {
-    (0..(length + PAST) as u32).map(|at| 0xDEAD_0000 * buffer + at).collect()
+fn held(entries: usize, buffer: u32) -> Vec<u32> {
+    (0..entries as u32).map(|at| 0x5EED_0000 * buffer + at).collect()
 }
 
 fn entries(buffer: &str, found: &[u32], due: &[u32]) -> Result<(), String> {

@@ -52,9 +52,19 @@ impl Rng {
     }
 }
 
-/// A call: a book, and the lengths of the two result buffers.
+/// What a random book is: valid, faulty in its values, damaged in its bytes, or bytes that never were a book.
+#[derive(Clone, Copy, Debug, PartialEq, Eq)]
+pub enum Kind {
+    Valid,
+    Faulty,
+    Damaged,
+    Stray,
+}
+
+/// A call: a book, what it is, and the lengths of the two result buffers.
 #[derive(Clone, Debug)]
 pub struct Call {
+    pub kind: Kind,
     pub book: Vec<u8>,
     pub cleared_len: usize,
     pub committed_len: usize,
@@ -63,7 +73,7 @@ pub struct Call {
 /// The call of a seed.
 pub fn call(seed: u64) -> Call {
     let mut rng = Rng::new(seed);
-    let book = book(&mut rng);
+    let (kind, book) = book(&mut rng);
     let offers = offers_told(&book);
     let (cleared_len, committed_len) = if rng.percent(90) {
         let long = [offers, offers, offers + 1, MOST_OFFERS.max(offers), offers + 100];
@@ -72,7 +82,7 @@ pub fn call(seed: u64) -> Call {
         let any = [offers.saturating_sub(1), offers / 2, 0, offers, offers + 5];
         (rng.pick(&any), rng.pick(&any))
     };
-    Call { book, cleared_len, committed_len }
+    Call { kind, book, cleared_len, committed_len }
 }
 
 /// The number of offers that block 0 tells, if it can be one.
@@ -83,12 +93,12 @@ pub(crate) fn offers_told(book: &[u8]) -> usize {
     }
 }
 
-/// A random book: six in ten valid, the others faulty in their values, damaged, or of bytes that never were a book.
-pub fn book(rng: &mut Rng) -> Vec<u8> {
+/// A random book: six in ten are valid.
+pub fn book(rng: &mut Rng) -> (Kind, Vec<u8>) {
     match rng.draw() % 100 {
-        0..=59 => valid::book(rng),
-        60..=74 => wrong::faulty(rng),
-        75..=94 => wrong::damaged(rng),
-        _ => wrong::stray(rng),
+        0..=59 => (Kind::Valid, valid::book(rng)),
+        60..=74 => (Kind::Faulty, wrong::faulty(rng)),
+        75..=94 => (Kind::Damaged, wrong::damaged(rng)),
+        _ => (Kind::Stray, wrong::stray(rng)),
     }
 }

@@ -1,0 +1,106 @@
+/* Every book against the line that is expected of it, the reference book number by number, and nothing at all. */
+#include "check.h"
+
+#include <stdio.h>
+#include <stdlib.h>
+#include <string.h>
+
+/* a book hands back so many rows, and none after them */
+static void expect_rows(const uint8_t *book, size_t bytes, size_t rows, const char *name)
+{
+    size_t row, there = 0;
+    for (row = 0; row < rows; row++)
+        there += ozp_row(book, bytes, row).kind == OZP_GIVEN;
+    expect(there == rows, name, "every row that is there");
+    expect_no_row(ozp_row(book, bytes, rows), name);
+    expect_no_row(ozp_row(book, bytes, SIZE_MAX), name);
+}
+
+static void judge(const char *folder, const char *line)
+{
+    static uint8_t book[ROOM];
+    static struct buffers out;
+    char name[256];
+    unsigned number, place, rows;
+    const char *verdict = strstr(line, ": ");
+    const char *handed = strstr(line, ", rows ");
+    size_t bytes;
+    if (verdict == NULL || handed == NULL || (size_t)(verdict - line) >= sizeof name || sscanf(handed, ", rows %u", &rows) != 1) {
+        expect(0, line, "a line of the expected output");
+        return;
+    }
+    memcpy(name, line, (size_t)(verdict - line));
+    name[verdict - line] = 0;
+    bytes = read_book(folder, name, book);
+    expect_rows(book, bytes, rows, name);
+    if (sscanf(verdict, ": refused %u %u", &number, &place) == 2) {
+        expect_refusal(clear(book, bytes, &out, ENTRIES, ENTRIES), &out, number, place, name);
+        expect_refusal(clear(book, bytes, &out, 0, 0), &out, number, place, name);
+        return;
+    }
+    expect_clearing(clear(book, bytes, &out, ENTRIES, ENTRIES), &out, rows, name);
+    expect_clearing(clear(book, bytes, &out, rows, rows), &out, rows, name);
+    if (rows > 0) {
+        expect_refusal(clear(book, bytes, &out, rows - 1, rows - 1), &out, OZP_SHORT_BUFFER, 1, name);
+        expect_refusal(clear(book, bytes, &out, rows, rows - 1), &out, OZP_SHORT_BUFFER, 2, name);
+    }
+}
+
+unsigned judge_all(const char *folder, const char *lines)
+{
+    char line[512];
+    unsigned books = 0;
+    FILE *file = fopen(lines, "r");
+    if (file == NULL) {
+        perror(lines);
+        exit(2);
+    }
+    while (fgets(line, sizeof line, file) != NULL) {
+        judge(folder, line);
+        books++;
+    }
+    fclose(file);
+    return books;
+}
+
+void reference(const char *folder)
+{
+    static const uint32_t cleared[] = {9900, 67, 33}, committed[] = {9900, 67, 50};
+    static const uint64_t whole[] = {0, 0, 637500};
+    static uint8_t book[ROOM];
+    static struct buffers out;
+    const char *name = "reference.book";
+    size_t bytes = read_book(folder, name, book), row;
+    ozp_answer a = clear(book, bytes, &out, ENTRIES, ENTRIES);
+    ozp_row_values r;
+    expect(a.kind == OZP_GIVEN && a.total == 10000 && a.price == 37500, name, "total and price");
+    expect(a.make_whole == 637500 && a.daily == 375637500 && a.year == 137107687500u, name, "amounts");
+    for (row = 0; row < LENGTH(cleared); row++) {
+        expect(out.cleared[row] == cleared[row], name, "cleared");
+        expect(out.committed[row] == committed[row], name, "committed");
+        expect(ozp_make_whole(a.kind, a.price, out.cleared[row], out.committed[row]) == whole[row], name, "make-whole");
+    }
+    r = ozp_row(book, bytes, 0);
+    expect(r.resource == 11 && r.seller == 7 && r.quantity == 9900 && r.stamp == 1, name, "row 0");
+    expect(r.price_kind == OZP_GIVEN && r.price == 10000, name, "price of row 0");
+    expect(r.block_kind == OZP_NONE && r.block == OZP_NO_VALUE, name, "row 0 is flexible");
+    r = ozp_row(book, bytes, 2);
+    expect(r.resource == 13 && r.price == 37500 && r.quantity == 100 && r.stamp == 3, name, "row 2");
+    expect(r.block_kind == OZP_GIVEN && r.block == 50, name, "minimum block of row 2");
+    bytes = read_book(folder, "no-price-in-row-0.book", book);
+    r = ozp_row(book, bytes, 0);
+    expect(r.kind == OZP_GIVEN && r.price_kind == OZP_NONE && r.price == OZP_NO_VALUE, "no-price-in-row-0.book", "missing price");
+}
+
+/* nothing offered: no price, and no buffer is needed; no bytes at all */
+void nothing(const char *folder)
+{
+    static uint8_t book[ROOM];
+    size_t bytes = read_book(folder, "no-offers-length-512.book", book);
+    ozp_answer a = ozp_clear(book, bytes, NULL, 0, NULL, 0);
+    expect(a.kind == OZP_NONE && a.total == 0 && a.price == OZP_NO_VALUE, "no offers", "no price");
+    expect(a.make_whole == 0 && a.daily == 0 && a.year == 0, "no offers", "every amount is 0");
+    a = ozp_clear(NULL, 0, NULL, 0, NULL, 0);
+    expect(a.kind == OZP_REFUSED && a.number == OZP_WRONG_LENGTH && a.place == 0, "no bytes", "refused 1 0");
+    expect_no_row(ozp_row(NULL, 0, 0), "no bytes");
+}

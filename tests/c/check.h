@@ -1,0 +1,41 @@
+/* What the tests in C share: counted facts, books that are read, answers and buffers that are held to what is expected. */
+#ifndef CHECK_H
+#define CHECK_H
+
+#include "../../include/ozpinduru.h"
+
+#define LENGTH(xs) (sizeof(xs) / sizeof((xs)[0]))
+
+/* what stands in a buffer before a call */
+#define UNTOUCHED 0xA5A5A5A5u
+
+/* a buffer a little longer than any book needs */
+#define ENTRIES (OZP_ROWS + 8)
+
+/* room for a file that is longer than any book */
+#define ROOM (OZP_BOOK_BYTES + 1024)
+
+struct buffers {
+    uint32_t cleared[ENTRIES];
+    uint32_t committed[ENTRIES];
+};
+
+/* the facts that hold and that fail */
+extern unsigned held, failed;
+
+void expect(int fact, const char *name, const char *what);
+size_t read_book(const char *folder, const char *name, uint8_t *book);
+ozp_answer clear(const uint8_t *book, size_t bytes, struct buffers *out, size_t cleared, size_t committed);
+void expect_clearing(ozp_answer a, const struct buffers *out, size_t rows, const char *name);
+void expect_refusal(ozp_answer a, const struct buffers *out, unsigned number, unsigned place, const char *name);
+void expect_no_row(ozp_row_values r, const char *name);
+
+/* the tests */
+unsigned judge_all(const char *folder, const char *lines);
+void reference(const char *folder);
+void nothing(const char *folder);
+void curve(void);
+void make_whole(void);
+void threads(const char *folder);
+
+#endif

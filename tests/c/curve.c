@@ -1,0 +1,52 @@
+/* The calls that take numbers alone. */
+#include "check.h"
+
+void curve(void)
+{
+    static const uint32_t at[][2] = {{0, 50000}, {9900, 50000}, {10000, 37500}, {10150, 18750}, {10151, 18687}, {10450, 0}};
+    static const uint32_t wrong[][6] = {
+        {2025, 0, 0, 5001, 0, OZP_YEAR},           {2100, 1, 0, 0, 1000, OZP_YEAR},
+        {2026, 0, 0, 0, 1000, OZP_COST},           {2026, 1000001, 0, 0, 1000, OZP_COST},
+        {2026, 146000, 146001, 0, 1000, OZP_OFFSET}, {2026, 146000, 0, 5001, 999, OZP_OUTAGE},
+        {2026, 146000, 0, 0, 999, OZP_REQUIREMENT}, {2026, 146000, 0, 0, 2000001, OZP_REQUIREMENT},
+    };
+    ozp_curve_points c = ozp_curve(2026, 146000, 73000, 2000, 10000);
+    ozp_curve_price p;
+    size_t i;
+    expect(c.kind == OZP_GIVEN && c.number == OZP_NO_VALUE && c.place == OZP_NO_VALUE, "curve", "kind");
+    expect(c.p1 == 50000 && c.p2 == 18750 && c.p3 == 0, "curve", "prices");
+    expect(c.q1 == 9900 && c.q2 == 10150 && c.q3 == 10450, "curve", "quantities");
+    c = ozp_curve(2026, 146000, 0, 2000, 10000);
+    expect(c.p1 == 87500 && c.p2 == 37500, "curve", "offset 0");
+    c = ozp_curve(2026, 146000, 146000, 2000, 1000);
+    expect(c.p1 == 50000 && c.p2 == 0 && c.q1 == 990 && c.q2 == 1015 && c.q3 == 1045, "curve", "offset of the cost, least requirement");
+    for (i = 0; i < LENGTH(at); i++) {
+        p = ozp_price_at(2026, 146000, 73000, 2000, 10000, at[i][0]);
+        expect(p.kind == OZP_GIVEN && p.price == at[i][1] && p.number == OZP_NO_VALUE && p.place == OZP_NO_VALUE, "curve", "price at");
+    }
+    p = ozp_price_at(2026, 146000, 73000, 2000, 10000, 10451);
+    expect(p.kind == OZP_NONE && p.price == OZP_NO_VALUE && p.number == OZP_NO_VALUE && p.place == OZP_NO_VALUE, "curve", "no price past Q3");
+    expect(ozp_price_at(2026, 146000, 73000, 2000, 10000, UINT32_MAX).kind == OZP_NONE, "curve", "no price far past Q3");
+    for (i = 0; i < LENGTH(wrong); i++) {
+        const uint32_t *w = wrong[i];
+        c = ozp_curve(w[0], w[1], w[2], w[3], w[4]);
+        p = ozp_price_at(w[0], w[1], w[2], w[3], w[4], 0);
+        expect(c.kind == OZP_REFUSED && c.number == OZP_PARAMETER_OUT_OF_RANGE && c.place == w[5], "curve", "refused 5");
+        expect(c.p1 == OZP_NO_VALUE && c.p2 == OZP_NO_VALUE && c.p3 == OZP_NO_VALUE && c.q1 == OZP_NO_VALUE
+                   && c.q2 == OZP_NO_VALUE && c.q3 == OZP_NO_VALUE,
+               "curve", "no points");
+        expect(p.kind == OZP_REFUSED && p.number == OZP_PARAMETER_OUT_OF_RANGE && p.place == w[5] && p.price == OZP_NO_VALUE, "curve",
+               "no price of refused parameters");
+    }
+}
+
+void make_whole(void)
+{
+    expect(ozp_make_whole(OZP_GIVEN, 37500, 33, 50) == 637500, "make-whole", "price times the difference");
+    expect(ozp_make_whole(OZP_GIVEN, 0, 33, 50) == 0, "make-whole", "a price of 0 is a price");
+    expect(ozp_make_whole(OZP_GIVEN, 37500, 50, 33) == 0, "make-whole", "committed under cleared");
+    expect(ozp_make_whole(OZP_GIVEN, UINT32_MAX, 0, UINT32_MAX) == (uint64_t)UINT32_MAX * UINT32_MAX, "make-whole", "the largest product");
+    expect(ozp_make_whole(OZP_NONE, OZP_NO_VALUE, 0, 50) == 0, "make-whole", "no price");
+    expect(ozp_make_whole(OZP_REFUSED, 37500, 33, 50) == OZP_NO_AMOUNT, "make-whole", "refused");
+    expect(ozp_make_whole(0, 37500, 33, 50) == OZP_NO_AMOUNT, "make-whole", "no answer");
+}
