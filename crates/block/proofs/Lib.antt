@@ -1,3 +1,4 @@
+pub mod Quarters
 pub mod Stored
 pub mod Exchange
 pub mod Damage

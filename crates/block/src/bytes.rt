@@ -54,14 +54,14 @@ pub fn opens_with(s: &[u8], letters: &[u8; 4]) -> bool
     s[3] == letters[3]
 }
 
-// Whether the n bytes from a place on are all zero. Their sum tells, with no branch in the loop.
+// Whether the n bytes from a place on are all zero: no bit of any of them is set.
 pub fn is_blank(s: &[u8], from: usize, n: usize) -> bool
-    requires { ⌜ (from + n ≤ length (now s)) × (n ≤ 512) ⌝ }
+    requires { ⌜ from + n ≤ length (now s) ⌝ }
     ensures { λ r. ⌜ r ≡ blank (now (s .entry)) from n ⌝ }
 {
-    let mut sum: u32 = 0;
+    let mut bits: u8 = 0;
     for i in 0..n {
-        sum += wide(s[from + i]);
+        bits |= s[from + i];
     }
-    sum == 0
+    bits == 0
 }

@@ -6,6 +6,7 @@ use crate::marks::absent_holds;
 use block::bytes::is_blank;
 use block::bytes::opens_with;
 use block::bytes::u16_at;
+use block::bytes::u32_at;
 ghost use mathlib.Core.Path.{_≡_};
 ghost use Prim.Native.Nat.{_-_, _*_, _≤_, _<_};
 ghost use lib.ListN.{length};
@@ -14,22 +15,20 @@ ghost use Rattle.laws.specs.Sum.{every};
 ghost use Rattle.layout.specs.Blocks.{placeOf};
 ghost use Rattle.layout.specs.Layout.{usedHolds, placeHolds, rowsHere, rowsHold};
 
-// Whether a used place has no unused mark or byte that is set, and a value not given has zero bytes.
+// Whether a used place has no unused mark or byte that is set, and a value not given has zero bytes. The marks are the lowest
+// of the last four bytes, which as one number are at most 3 where no other mark or byte is set.
 fn used_holds(p: &[u8]) -> bool
     requires { ⌜ 32 ≤ length (now p) ⌝ }
     ensures { λ r. ⌜ r ≡ usedHolds (now (p .entry)) ⌝ }
 {
-    let marks = p[28];
-    if 4 <= marks {
+    if 3 < u32_at(p, 28) {
         return false;
     }
+    let marks = p[28];
     if !absent_holds(p, 8, marks, 1) {
         return false;
     }
-    if !absent_holds(p, 16, marks, 2) {
-        return false;
-    }
-    is_blank(p, 29, 3)
+    absent_holds(p, 16, marks, 2)
 }
 
 // Whether a place of a block is laid out as a used one, or as one that is not.

@@ -1,38 +1,41 @@
--- `is_blank` tells whether the n bytes from a place on are all zero. The loop's invariant: the sum of the bytes passed, which
--- are at most 255 each. Bytes whose sum is 0 are all 0.
+-- `is_blank` tells whether the n bytes from a place on are all zero. The loop's invariant: no bit is set exactly where the
+-- bytes passed are all zero.
 -- Assumes nothing.
-use mathlib.Core.Path.{_≡_, ap, _∙_}
-use Prim.Native.Nat.{ℕ, _≤_, _+_, _*_, _-_}
+use mathlib.Core.Path.{_≡_, refl, sym, ap, _∙_}
+use mathlib.Core.Bool.{_&&_}
+use Prim.Native.Nat.{ℕ, zero, suc, _≤_, _-_}
+use native.Mathlib.Numerals.{add-one}
 use native.Mathlib.Omega.{arith}
-use lib.Dec.{eqb}
+use lib.Bits.{bitOr, or-add-and, and-le-r}
+use lib.Dec.{eqb, eqb·suc-zero}
 use borrow.Author.Needs.{needs}
-use Rattle.laws.specs.Sum.{sumTo}
-use Rattle.laws.proofs.Loops.{added-none, added-more}
-use Rattle.laws.proofs.Everys.{every-sumTo}
-use Rattle.block.specs.Bytes.{byte, blank}
+use borrow.Author.Tests.{ne-eqb}
+use Rattle.laws.proofs.Everys.{every-zero, every-suc}
+use Rattle.block.specs.Bytes.{blank}
 use Rattle.block.proofs.bytes.is_blank.Statement.{statement}
 use Rattle.block.proofs.bytes.is_blank.Tie as tie
 
+-- no bit of either of two numbers is set exactly where both are 0
+none-set : (a b : ℕ) → eqb (bitOr a b) 0 ≡ eqb a 0 && eqb b 0
+none-set zero b = refl
+none-set (suc a) b =
+    rw eqb·suc-zero (ne-eqb (bitOr (suc a) b) 0 (λ e. omega (arith, or-add-and (suc a) b, and-le-r (suc a) b)))
+
 abbrev Inv-loop : tie.InvT-loop
-Inv-loop s from n sum₀ i₀ sum i = (i ≤ n) × (sum ≡ sumTo (λ j. byte s (from + j)) i) × (sum ≤ 255 * i)
+Inv-loop s from n bits₀ i₀ bits i = (i ≤ n) × (eqb bits 0 ≡ blank s from i)
 
 abbrev μ-loop : tie.MeasureT-loop
-μ-loop s from n sum₀ i₀ sum i = n - i
+μ-loop s from n bits₀ i₀ bits i = n - i
 
 loop-holds : tie.Need-loop-holds Inv-loop μ-loop
-loop-holds c = (omega arith, added-none _, omega arith)
+unfolding blank
+loop-holds c = (omega arith, sym (every-zero _))
 
-add-wide : tie.Need-add-wide Inv-loop μ-loop
-add-wide c = search needs
+add-bits : tie.Need-add-bits Inv-loop μ-loop
+add-bits c = search needs
 
-shared-slice-read-wide : tie.Need-shared-slice-read-wide Inv-loop μ-loop
-shared-slice-read-wide c = search needs
-
-wide-requires : tie.Need-wide-requires Inv-loop μ-loop
-wide-requires c κs = search needs
-
-add-sum : tie.Need-add-sum Inv-loop μ-loop
-add-sum c = search needs
+shared-slice-read-bits : tie.Need-shared-slice-read-bits Inv-loop μ-loop
+shared-slice-read-bits c = search needs
 
 add-i : tie.Need-add-i Inv-loop μ-loop
 add-i c = search needs
@@ -41,13 +44,13 @@ loop-less : tie.Need-loop-less Inv-loop μ-loop
 loop-less c = search needs
 
 loop-again : tie.Need-loop-again Inv-loop μ-loop
+unfolding blank
 loop-again c =
-    (omega arith, added-more _ _ (c .before .before .before .loop .inv .1) (c .wide .ensures .0), omega arith)
+    let b = c .before .before in
+    (omega arith, rw (add-one, every-suc, none-set, b .loop .inv .1))
 
 returns : tie.Need-returns Inv-loop μ-loop
-unfolding blank
-returns c =
-    ap (λ (k : ℕ). eqb k 0) (c .before .loop .inv .1 ∙ ap (sumTo _) (omega arith)) ∙ every-sumTo _ _
+returns c = c .before .loop .inv .1 ∙ ap (blank _ _) (omega arith)
 
 pub is-blank-spec : {M : Type 1} → statement M
 is-blank-spec =
@@ -56,10 +59,8 @@ is-blank-spec =
     Inv-loop
     μ-loop
     loop-holds
-    add-wide
-    shared-slice-read-wide
-    wide-requires
-    add-sum
+    add-bits
+    shared-slice-read-bits
     add-i
     loop-less
     loop-again

@@ -6,17 +6,14 @@ use Rattle.block.specs.Check.{checkHolds}
 use Rattle.block.proofs.check.check_holds.Statement.{statement}
 use Rattle.block.proofs.check.check_holds.Tie as tie
 
-first-sum-requires : tie.Need-first-sum-requires
-first-sum-requires c κs = search needs
+check-sums-requires : tie.Need-check-sums-requires
+check-sums-requires c κs = search needs
 
 cast-if1 : tie.Need-cast-if1
 cast-if1 c = search needs
 
 u16-at-requires : tie.Need-u16-at-requires
 u16-at-requires c κs = search needs
-
-second-sum-requires : tie.Need-second-sum-requires
-second-sum-requires c κs = search needs
 
 cast-result : tie.Need-cast-result
 cast-result c = search needs
@@ -27,10 +24,11 @@ u16-at-requires-2 c κs = search needs
 returns : tie.Need-returns
 unfolding checkHolds
 returns c =
+    let sums = c .before .before .before .before .before .check-sums in
     rw (
-      ← (c .before .before .before .before .first-sum .ensures),
+      ← (sums .ensures .0),
+      ← (sums .ensures .1),
       ← (c .before .before .before .u16-at .ensures .0),
-      ← (c .before .second-sum .ensures),
       ← (c .u16-at2 .ensures .0),
       eq-eqb _ _ (c .before .before .if1 .taken),
     )
@@ -39,7 +37,7 @@ returns-2 : tie.Need-returns-2
 unfolding checkHolds
 returns-2 c =
     rw (
-      ← (c .before .before .first-sum .ensures),
+      ← (c .before .before .before .check-sums .ensures .0),
       ← (c .before .u16-at .ensures .0),
       ne-eqb _ _ (c .if1 .left),
     )
@@ -48,10 +46,9 @@ pub check-holds-spec : {M : Type 1} → statement M
 check-holds-spec =
     tie.close
     (tie.spec
-    first-sum-requires
+    check-sums-requires
     cast-if1
     u16-at-requires
-    second-sum-requires
     cast-result
     u16-at-requires-2
     returns

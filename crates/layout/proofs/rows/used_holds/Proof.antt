@@ -3,47 +3,42 @@
 use borrow.Author.Needs.{needs}
 use Rattle.laws.proofs.Ways.{ways}
 use Rattle.values.specs.Values.{marked}
-use Rattle.layout.specs.Layout.{usedHolds}
+use Rattle.layout.proofs.Used.{used-holds-word}
 use Rattle.layout.proofs.rows.used_holds.Statement.{statement}
 use Rattle.layout.proofs.rows.used_holds.Tie as tie
 
-shared-slice-read-marks : tie.Need-shared-slice-read-marks
-shared-slice-read-marks c = search needs
+u32-at-requires : tie.Need-u32-at-requires
+u32-at-requires c κs = search needs
 
 returns : tie.Need-returns
-unfolding usedHolds marked
-returns c = search ways
+unfolding marked
+returns c = rw used-holds-word (search ways)
+
+shared-slice-read-marks : tie.Need-shared-slice-read-marks
+shared-slice-read-marks c = search needs
 
 absent-holds-requires : tie.Need-absent-holds-requires
 absent-holds-requires c κs = search needs
 
 returns-2 : tie.Need-returns-2
-unfolding usedHolds marked
-returns-2 c = search ways
+unfolding marked
+returns-2 c = rw used-holds-word (search ways)
 
 absent-holds-requires-2 : tie.Need-absent-holds-requires-2
 absent-holds-requires-2 c κs = search needs
 
 returns-3 : tie.Need-returns-3
-unfolding usedHolds marked
-returns-3 c = search ways
-
-is-blank-requires : tie.Need-is-blank-requires
-is-blank-requires c κs = search needs
-
-returns-4 : tie.Need-returns-4
-unfolding usedHolds marked
-returns-4 c = search ways
+unfolding marked
+returns-3 c = rw used-holds-word (search ways)
 
 pub used-holds-spec : {M : Type 1} → statement M
 used-holds-spec =
     tie.close
     (tie.spec
-    shared-slice-read-marks
+    u32-at-requires
     returns
+    shared-slice-read-marks
     absent-holds-requires
     returns-2
     absent-holds-requires-2
-    returns-3
-    is-blank-requires
-    returns-4)
+    returns-3)
