@@ -11,7 +11,8 @@ use values::Verdict;
 use values::head::offers_in;
 ghost use mathlib.Core.Path.{_≡_};
 ghost use Prim.Native.Nat.{_+_, _-_, _≤_};
-ghost use Rattle.values.specs.Refusals.{first};
+ghost use Rattle.values.specs.Refusals.{andThen, first};
+ghost use Rattle.values.specs.declared.Verdict.the-variants.{Passed};
 ghost use Rattle.layout.specs.Blocks.{blockCount};
 ghost use Rattle.layout.specs.Form.{lengthFault, checkFault, offerBlockFault, layoutFault, formFault};
 ghost use Rattle.layout.specs.Counted.{Counted};
@@ -74,16 +75,24 @@ fn layouts(book: &[u8], blocks: usize) -> Verdict
     offer_blocks(book, blocks, offers_in(head) as usize)
 }
 
-// The first fault among 1, 2 and 3.
+// The first fault among 2 and 3, of a book whose length holds.
+fn blocks_fault(book: &[u8]) -> Verdict
+    requires { ⌜ lengthFault (now book) ≡ Passed ⌝ }
+    ensures { λ r. ⌜ r ≡ andThen (checkFault (now (book .entry))) (layoutFault (now (book .entry))) ⌝ }
+{
+    let blocks = book.len() / SIZE;
+    if let Verdict::Refused(number, place) = checks(book, blocks) {
+        return Verdict::Refused(number, place);
+    }
+    layouts(book, blocks)
+}
+
+// The first fault among 1, 2 and 3. It is small, so that a wrong length is refused before any work.
 pub fn form(book: &[u8]) -> Verdict
     ensures { λ r. ⌜ r ≡ formFault (now (book .entry)) ⌝ }
 {
     if let Verdict::Refused(number, place) = lengths(book) {
         return Verdict::Refused(number, place);
     }
-    let blocks = book.len() / SIZE;
-    if let Verdict::Refused(number, place) = checks(book, blocks) {
-        return Verdict::Refused(number, place);
-    }
-    layouts(book, blocks)
+    blocks_fault(book)
 }
