@@ -1,7 +1,7 @@
 -- The faults of a book, stage by stage as the code goes: the form, the parameters, the rows.
 --
--- In order: three tests, of which two are taken together; what comes before the rows; a book whose form is refused; what
--- decides where the form passed; that its rows then lie within it.
+-- In order: three tests, of which two are taken together; what comes before the rows; the form in two steps; a book
+-- whose form is refused; what decides where the form passed; that its rows then lie within it.
 -- Assumes nothing.
 use mathlib.Core.Path.{_≡_, refl, ap, _∙_}
 use mathlib.Core.Bool.{true, false}
@@ -13,7 +13,7 @@ use Rattle.values.specs.declared.Verdict.the-variants.{Passed, Refused}
 use Rattle.values.proofs.Firsts.{andThen-next, andThen-refused, andThen-left}
 use Rattle.limits.specs.Parameters.{missingFault, rangeFault}
 use Rattle.limits.specs.Offers.{rowsFault}
-use Rattle.layout.specs.Form.{formFault, offerCount}
+use Rattle.layout.specs.Form.{lengthFault, checkFault, layoutFault, formFault, offerCount}
 use Rattle.layout.specs.Read.{bookParameters, bookOffer, Inside}
 use Rattle.layout.proofs.Passing.{form-passed-count, form-passed-row}
 use Rattle.book.specs.Faults.{firstFault, statedFault, soundFault}
@@ -34,6 +34,19 @@ first-stated b =
 pub stated-form : (b : List ℕ) → statedFault b ≡ Passed → formFault b ≡ Passed
 unfolding statedFault
 stated-form b e = andThen-left (formFault b) _ e
+
+-- ---- the form, in two steps
+
+module _ (b : List ℕ) where
+  -- the length is refused
+  pub form-length : {number place : ℕ} → lengthFault b ≡ Refused number place → formFault b ≡ Refused number place
+  unfolding formFault
+  form-length e = andThen-refused (lengthFault b) _ _ _ e
+
+  -- where it passed the blocks decide
+  pub form-blocks : lengthFault b ≡ Passed → formFault b ≡ andThen (checkFault b) (layoutFault b)
+  unfolding formFault
+  form-blocks e = andThen-next (lengthFault b) _ e
 
 -- ---- the form is refused
 

@@ -2,7 +2,9 @@
 pub mod rows;
 
 use block::SIZE;
+use layout::form::blocks_fault;
 use layout::form::form;
+use layout::form::lengths;
 use layout::reader::offer_count;
 use limits::parameters::missing_in;
 use limits::parameters::parameter_fault;
@@ -22,11 +24,15 @@ pub fn and_then(test: Verdict, next: Verdict) -> Verdict
     }
 }
 
-// The first fault before the rows of a book that is to be cleared: 1, 2, 3, then 4, then 5.
+// The first fault before the rows of a book that is to be cleared: 1, 2, 3, then 4, then 5. A wrong length is told before any
+// other work.
 pub fn stated_fault(book: &[u8]) -> Verdict
     ensures { λ r. ⌜ r ≡ statedFault (now (book .entry)) ⌝ }
 {
-    if let Verdict::Refused(number, place) = form(book) {
+    if let Verdict::Refused(number, place) = lengths(book) {
+        return Verdict::Refused(number, place);
+    }
+    if let Verdict::Refused(number, place) = blocks_fault(book) {
         return Verdict::Refused(number, place);
     }
     let head = &book[0..SIZE];

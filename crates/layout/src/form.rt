@@ -18,7 +18,7 @@ ghost use Rattle.layout.specs.Form.{lengthFault, checkFault, offerBlockF
 ghost use Rattle.layout.specs.Counted.{Counted};
 
 // 1: whole blocks, one at least, and no more bytes than the most.
-fn lengths(book: &[u8]) -> Verdict
+pub fn lengths(book: &[u8]) -> Verdict
     ensures { λ r. ⌜ r ≡ lengthFault (now (book .entry)) ⌝ }
 {
     let bytes = book.len();
@@ -76,7 +76,7 @@ fn layouts(book: &[u8], blocks: usize) -> Verdict
 }
 
 // The first fault among 2 and 3, of a book whose length holds.
-fn blocks_fault(book: &[u8]) -> Verdict
+pub fn blocks_fault(book: &[u8]) -> Verdict
     requires { ⌜ lengthFault (now book) ≡ Passed ⌝ }
     ensures { λ r. ⌜ r ≡ andThen (checkFault (now (book .entry))) (layoutFault (now (book .entry))) ⌝ }
 {
@@ -87,7 +87,7 @@ fn blocks_fault(book: &[u8]) -> Verdict
     layouts(book, blocks)
 }
 
-// The first fault among 1, 2 and 3. It is small, so that a wrong length is refused before any work.
+// The first fault among 1, 2 and 3.
 pub fn form(book: &[u8]) -> Verdict
     ensures { λ r. ⌜ r ≡ formFault (now (book .entry)) ⌝ }
 {
