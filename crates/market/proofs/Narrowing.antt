@@ -1,7 +1,8 @@
 -- Brackets of prices, and of the quantity at which the curve reaches a price.
 --
 -- In order: the whole range of prices; a quantity that is offered at a price, and that the curve buys at it, can be supplied;
--- the bracket over such a price; below the next price of an offer no more is offered than below the bracket; a quantity at which the curve asks less than the price, and where both ends meet.
+-- the bracket over such a price; below the next price of an offer no more is offered than below the bracket; a quantity at
+-- which the curve asks less than the price, and where both ends meet.
 -- Assumes nothing.
 use mathlib.Core.Path.{_≡_, sym, subst, _∙_}
 use mathlib.Core.List.{List}

@@ -9,7 +9,6 @@ use crate::supply::next_price;
 use crate::supply::supply_at;
 use curve::Curve;
 use curve::tenth_price;
-ghost use mathlib.Core.Path.{_≡_};
 ghost use Prim.Native.Nat.{_≤_, _<_};
 ghost use Rattle.auction.specs.Clearing.{clearedTotal};
 ghost use Rattle.curve.specs.Shape.{Shaped};
