@@ -1,18 +1,25 @@
--- Brackets of prices: where a search begins, and how it narrows one.
+-- Brackets of prices, and of the quantity at which the curve reaches a price.
 --
--- In order: the whole range of prices; the part over a price at which the curve buys what is offered, and the part under one
--- at which it does not; a quantity that is offered at a price or below, and that the curve buys at it, can be supplied.
+-- In order: the whole range of prices; a quantity that is offered at a price, and that the curve buys at it, can be supplied;
+-- the bracket over such a price; below the next price of an offer no more is offered than below the bracket; a quantity at
+-- which the curve asks less than the price, and where both ends meet.
 -- Assumes nothing.
-use mathlib.Core.Path.{_≡_, sym, subst}
+use mathlib.Core.Path.{_≡_, sym, subst, _∙_}
+use mathlib.Core.List.{List}
 use Prim.Native.Nat.{ℕ, suc, _+_, _-_, _≤_, _<_}
 use native.Mathlib.Nat.{le-antisymm, le-trans}
 use native.Mathlib.Numerals.{add-one}
 use native.Mathlib.Omega.{arith}
+use lib.Dec.{ltb}
+use borrow.Author.Tests.{lt-ltb, le-ltb}
+use Rattle.laws.proofs.Cases.{by-order}
+use Rattle.laws.proofs.Where.{sumWhere-same}
 use Rattle.auction.specs.Offers.{Offers, supply, supplyBelow}
 use Rattle.auction.proofs.Supply.{supply-mono, supplyBelow-zero, supplyBelow-suc}
 use Rattle.curve.specs.Price.{tenthPrice}
 use Rattle.curve.specs.declared.Curve.{Curve}
-use Rattle.market.specs.Bracket.{Under, Reaches}
+use Rattle.market.specs.Rows.{listed}
+use Rattle.market.specs.Bracket.{Under, NoneBefore, Reaches}
 use Rattle.market.specs.declared.bracket.Bracket.{Bracket}
 
 -- below the price 0 nothing is offered, and nothing can be supplied
@@ -27,30 +34,37 @@ under-whole c o cap over l =
       supplied = omega arith;
     }
 
--- what is offered strictly below the next price is what is offered at this one or below
-pub below-next : (o : Offers) (price s : ℕ) → s ≡ supply o price → s ≡ supplyBelow o (price + 1)
-below-next o price s e = rw (add-one, supplyBelow-suc) e
-
 -- a quantity that is offered at a price or below, where the curve asks no less, can be supplied
 pub supplied-at : (c : Curve) (o : Offers) (price s : ℕ) → s ≤ supply o price → price ≤ tenthPrice c s
     → s ≤ supply o (tenthPrice c s)
 supplied-at c o price s l h = le-trans l (supply-mono o price (tenthPrice c s) h)
 
--- over a price at which the curve buys all that is offered
+-- over a price at which all that is offered can be supplied
 pub under-over : (c : Curve) (o : Offers) (b : Bracket) (price s : ℕ) → b .cap ≤ 1000000 → price < 1000000
     → s ≡ supply o price → s ≤ c .q3 → s ≤ supply o (tenthPrice c s)
     → Under c o (record { from = price + 1; below = s; cap = b .cap; over = b .over })
 under-over c o b price s h l e w m =
-    record { low = omega arith; high = h; below = below-next o price s e; within = w; supplied = m }
+    record { low = omega arith; high = h; below = rw (add-one, supplyBelow-suc) e; within = w; supplied = m }
 
--- under any price inside
-pub under-under : (c : Curve) (o : Offers) (b : Bracket) (price s : ℕ) → Under c o b → price ≤ 1000000
-    → Under c o (record { from = b .from; below = b .below; cap = price; over = s })
-under-under c o b price s u l =
-    record { low = u .low; high = l; below = u .below; within = u .within; supplied = u .supplied }
+-- where no offer is priced from one price up to another, no more is offered below the other
+below-clear : (o : Offers) (from to : ℕ) → from ≤ to
+    → ((i : ℕ) → i < o .count → from ≤ o .price i → to ≤ o .price i) → supplyBelow o to ≡ supplyBelow o from
+unfolding supplyBelow
+below-clear o from to l none = sumWhere-same _ _ (o .quantity) (o .count) same
+  where
+    same : (i : ℕ) → i < o .count → ltb (o .price i) to ≡ ltb (o .price i) from
+    same i h =
+        by-order from (o .price i)
+        (λ k. le-ltb _ to (none i h k) ∙ sym (le-ltb _ from k))
+        (λ k. lt-ltb _ to (omega arith) ∙ sym (lt-ltb _ from k))
+
+pub below-next : (c : Curve) (prices quantities : List ℕ) (n : ℕ) (b : Bracket) (next : ℕ)
+    → Under c (listed prices quantities n) b → NoneBefore prices n (b .from) next
+    → supplyBelow (listed prices quantities n) next ≡ b .below
+below-next c prices quantities n b next u m =
+    below-clear (listed prices quantities n) (b .from) next (m .low) (m .none) ∙ sym (u .below)
 
 module _ (c : Curve) (price below top low high : ℕ) (r : Reaches c price below top low high) where
-  -- a quantity at which the curve asks less is too much
   pub reaches-under : (k : ℕ) → low < k → k ≤ high → tenthPrice c k < price → Reaches c price below top low (k - 1)
   reaches-under k l m h =
       let e : k ≡ suc (k - 1) = omega arith in
@@ -62,6 +76,5 @@ module _ (c : Curve) (price below top low high : ℕ) (r : Reaches c price below
         past = λ p. subst (λ (q : ℕ). tenthPrice c q < price) e h;
       }
 
-  -- where both ends meet
   pub reaches-met : high ≤ low → Reaches c price below top low low
   reaches-met l = subst (Reaches c price below top low) (le-antisymm l (r .ordered)) r

@@ -1,10 +1,10 @@
-// Where to look next for the price at which the total stops. What is said here is a guess: any price inside would do.
+// Where to look next for the price at which the total stops. All of it is guesses: any price inside a bracket would do.
 use crate::bracket::Bracket;
 use curve::Curve;
 ghost use Prim.Native.Nat.{_≤_, _<_};
 ghost use Rattle.curve.specs.Shape.{Shaped};
 
-// The quantity at so much of the whole way from qa to qb.
+// The quantity at a part of the whole way from qa to qb.
 fn along(part: u32, whole: u32, qa: u32, qb: u32) -> u32
     requires { ⌜ (part ≤ whole) × (0 < whole) × (qa ≤ qb) ⌝ }
     ensures { λ r. ⌜ r ≤ qb ⌝ }
@@ -13,7 +13,7 @@ fn along(part: u32, whole: u32, qa: u32, qb: u32) -> u32
     qa + way as u32
 }
 
-// How many tenths the curve buys at a price.
+// How many tenths the curve buys at a price, by its two lines.
 pub(crate) fn tenths_at(c: Curve, price: u32) -> u32
     requires { ⌜ Shaped c ⌝ }
     ensures { λ r. ⌜ r ≤ c .q3 ⌝ }
@@ -39,7 +39,7 @@ fn lacking(has: u32, wants: u32) -> u32
     if has < wants { wants - has } else { 0 }
 }
 
-// A price inside a bracket: its middle; or where the offers would meet the curve, if both ran straight from end to end.
+// A price inside a bracket: its middle, or where offers and curve would meet if both ran straight from end to end.
 pub(crate) fn aim(c: Curve, b: Bracket, middle: bool) -> u32
     requires { ⌜ Shaped c × (b .from < b .cap) × (b .cap ≤ 1000000) ⌝ }
     ensures { λ r. ⌜ (b .from ≤ r) × (r < b .cap) ⌝ }
@@ -58,8 +58,8 @@ pub(crate) fn aim(c: Curve, b: Bracket, middle: bool) -> u32
     }
 }
 
-// The price at which the total stops is close over the bracket's lower end: so few tenths are offered up to its upper end, or
-// are short of what the curve buys at its lower one.
+// The total stops close over the bracket's lower end: no more than a few tenths are offered between both ends, or are short of
+// what the curve buys at the lower one.
 pub(crate) fn close(c: Curve, b: Bracket, few: u32) -> bool
     requires { ⌜ Shaped c ⌝ }
 {

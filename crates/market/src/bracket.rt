@@ -12,8 +12,8 @@ ghost use Rattle.curve.specs.Price.{tenthPrice};
 ghost use Rattle.market.specs.Rows.{Rows, listed};
 ghost use Rattle.market.specs.Bracket.{Under, Narrower};
 
-// A price that the level at which the total stops is not below, with what is offered strictly below it; and a price at which
-// more is offered than the curve buys, with what is offered at it or below.
+// A price, with what is offered strictly below it, all of which clears; and a price from which the curve does not buy all that
+// is offered, with how much that is.
 pub struct Bracket {
     pub from: u32,
     pub below: u32,
@@ -33,7 +33,7 @@ fn bought(c: Curve, quantity: u32, price: u32) -> bool
     price <= bid.0
 }
 
-// The bracket on one side of a price inside it.
+// The part of a bracket on one side of a price inside it.
 pub(crate) fn narrowed(
     c: Curve,
     prices: &[u32],
@@ -64,12 +64,12 @@ pub(crate) fn narrowed(
     }
 }
 
-// Both brackets have as much offered below one end and up to the other: no offer was priced between.
+// As much is offered as before below one end and up to the other: the last price told nothing.
 fn as_before(b: Bracket, old: Bracket) -> bool {
     b.below == old.below && b.over == old.over
 }
 
-// The bracket, narrowed until the level at which the total stops is close, or until two prices in turn have told nothing.
+// A bracket narrowed until the total stops close over its lower end, or until two prices in turn have told nothing.
 pub(crate) fn narrow(
     c: Curve,
     prices: &[u32],

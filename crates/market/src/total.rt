@@ -9,7 +9,6 @@ use crate::supply::next_price;
 use crate::supply::supply_at;
 use curve::Curve;
 use curve::tenth_price;
-ghost use mathlib.Core.Path.{_≡_};
 ghost use Prim.Native.Nat.{_≤_, _<_};
 ghost use Rattle.auction.specs.Clearing.{clearedTotal};
 ghost use Rattle.curve.specs.Shape.{Shaped};
@@ -18,7 +17,7 @@ ghost use Rattle.market.specs.Bracket.{Reaches};
 ghost use Rattle.market.specs.Rows.{Rows, listed};
 ghost use Rattle.market.specs.Stop.{StopsAt, Parted};
 
-// A guess where it lies past `low` and up to `high`, and else the nearest number that does.
+// A guess, or the nearest number to it that is past `low` and not past `high`.
 fn inside(guess: u32, low: u32, high: u32) -> u32
     requires { ⌜ low < high ⌝ }
     ensures { λ r. ⌜ (low < r) × (r ≤ high) ⌝ }
@@ -50,7 +49,7 @@ fn reached(c: Curve, price: u32, below: u32, top: u32) -> u32
     low
 }
 
-// A level of which so much is offered below it and up to it, and at which the total stops.
+// The level at a price, by what is offered strictly below it and what is offered at it or below.
 fn level(total: u32, price: u32, below: u32, reach: u32) -> Level
     requires { ⌜ (below ≤ total) × (below ≤ reach) ⌝ }
     ensures { λ r. ⌜ Parted total price below reach r ⌝ }
@@ -64,8 +63,9 @@ fn level(total: u32, price: u32, below: u32, reach: u32) -> Level
     }
 }
 
-// The cleared total and the level at which it stops. Narrowed prices are followed by the next price of an offer: with what is
-// offered below it and at it, the curve tells whether the total stops there.
+// The cleared total and the level at which it stops. A bracket of prices is narrowed, and then the next price of an offer is
+// tried: by what is offered below it and up to it, the curve tells whether the total stops there. The search is close when no
+// more than an average offer is short, and with each price that the total goes past, half as much.
 pub fn cleared_level(c: Curve, prices: &[u32], quantities: &[u32], n: usize) -> Level
     requires { ⌜ Shaped c × Rows (now prices) (now quantities) n ⌝ }
     ensures { λ r. ⌜ StopsAt (listed (now (prices .entry)) (now (quantities .entry)) n) (clearedTotal (demandOf c) (listed (now (prices .entry)) (now (quantities .entry)) n)) r × (r .total ≤ c .q3) ⌝ }

@@ -40,9 +40,10 @@ cast-step c = search needs
 mul-step : tie.Need-mul-step
 mul-step c =
     let b = c .before .before .before .before .before .before .args .b in
+    let short = c .before .before .lacking .result in
     omega (
       arith,
-      mul-le-mul {n₁ = b .cap - b .from} {m₁ = c .before .before .lacking .result} {n₂ = 4294967295} {m₂ = 4294967295} (omega arith) (omega arith),
+      mul-le-mul {n₁ = b .cap - b .from} {m₁ = short} {n₂ = 4294967295} {m₂ = 4294967295} (omega arith) (omega arith),
     )
 
 add-step : tie.Need-add-step

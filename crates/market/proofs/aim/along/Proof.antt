@@ -1,6 +1,6 @@
 -- `market::aim::along` stays inside: no more than the whole way is gone.
 -- Assumes nothing.
-use Prim.Native.Nat.{ℕ, _-_, _*_, _/_, _≤_}
+use Prim.Native.Nat.{_-_, _*_, _/_, _≤_}
 use native.Mathlib.Nat.{div-le-of-le-mul, mul-le-mul, mul-le-mul-right}
 use native.Mathlib.Omega.{arith}
 use borrow.Author.Needs.{needs}

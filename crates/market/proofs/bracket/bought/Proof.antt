@@ -14,7 +14,9 @@ tenth-price-requires : tie.Need-tenth-price-requires
 tenth-price-requires c κs = search needs
 
 returns-2 : tie.Need-returns-2
-returns-2 c = λ e. (omega arith, omega (arith, leb-true (c .before .before .before .before .args .price) (c .before .tenth-price .result .0) e))
+returns-2 c = λ e.
+    let price = c .before .before .before .before .args .price in
+    (omega arith, omega (arith, leb-true price (c .before .tenth-price .result .0) e))
 
 pub bought-spec : {M : Type 1} → statement M
 bought-spec = tie.close (tie.spec returns tenth-price-requires returns-2)

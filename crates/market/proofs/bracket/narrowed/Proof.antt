@@ -2,7 +2,7 @@
 -- Assumes nothing.
 use native.Mathlib.Nat.{le-of-eq}
 use native.Mathlib.Omega.{arith}
-use Rattle.market.proofs.Narrowing.{supplied-at, under-over, under-under}
+use Rattle.market.proofs.Narrowing.{supplied-at, under-over}
 use borrow.Author.Needs.{needs}
 use Rattle.market.proofs.bracket.narrowed.Statement.{statement}
 use Rattle.market.proofs.bracket.narrowed.Tie as tie

@@ -1,17 +1,17 @@
 -- `market::total::cleared_level` is the level at which the cleared total stops. The loop's invariant: the total is no less than
 -- what is offered below the bracket.
 -- Assumes nothing.
-use mathlib.Core.Path.{_≡_, sym, _∙_}
+use mathlib.Core.Path.{_≡_}
 use mathlib.Core.Logic.{⊎-elim}
 use Prim.Native.Nat.{_-_, _≤_, _<_}
+use native.Mathlib.Omega.{arith}
+use borrow.Author.Needs.{needs}
 use borrow.Author.Tests.{eqb-true, eqb-false}
 use Rattle.auction.specs.Offers.{Offers, supplyBelow}
-use native.Mathlib.Omega.{arith}
 use Rattle.market.specs.Bracket.{Under}
 use Rattle.market.specs.Rows.{listed}
-use Rattle.market.proofs.Narrowing.{under-whole}
-use Rattle.market.proofs.Stopping.{below-clear, below-reach, reached-all, reached-stops}
-use borrow.Author.Needs.{needs}
+use Rattle.market.proofs.Narrowing.{under-whole, below-next}
+use Rattle.market.proofs.Stopping.{below-upto, reached-all, reached-stops}
 use Rattle.market.proofs.total.cleared_level.Statement.{statement}
 use Rattle.market.proofs.total.cleared_level.Tie as tie
 
@@ -21,22 +21,21 @@ Inv-loop c prices quantities n at₀ few₀ at few = Under c (listed prices quan
 abbrev μ-loop : tie.MeasureT-loop
 μ-loop c prices quantities n at₀ few₀ at few = 1000000 - at .from
 
--- the offers of the rows, at the place where the next price is known
-abbrev offers : tie.After-supply-at Inv-loop μ-loop → Offers
-offers c =
-    let a = c .before .before .before .before .before .before .before .before .before .before .args in
-    listed (a .prices .now) (a .quantities .now) (a .n)
+-- the offers of the rows
+abbrev offers : tie.Start Inv-loop μ-loop → Offers
+offers c = listed (c .args .prices .now) (c .args .quantities .now) (c .args .n)
 
--- no more is offered below the next price than below the bracket
-same : (c : tie.After-supply-at Inv-loop μ-loop)
-    → supplyBelow (offers c) (c .before .next-price .result) ≡ c .before .before .narrow .result .below
-same c =
-    let next = c .before .next-price .ensures in
-    below-clear (offers c) _ _ (next .low) (next .none) ∙ sym (c .before .before .narrow .ensures .0 .below)
+-- what is offered below the next price, and that it is no more than what is offered up to it
+below : (c : tie.After-next-price Inv-loop μ-loop)
+    → supplyBelow (offers (c .before .before .before .before .before .before .before .before .before)) (c .next-price .result)
+    ≡ c .before .narrow .result .below
+below c =
+    let a = c .before .before .before .before .before .before .before .before .before .args in
+    below-next (a .c) (a .prices .now) (a .quantities .now) (a .n) (c .before .narrow .result) (c .next-price .result)
+    (c .before .narrow .ensures .0) (c .next-price .ensures)
 
--- and no less at it
 upto : (c : tie.After-supply-at Inv-loop μ-loop) → c .before .before .narrow .result .below ≤ c .supply-at .result
-upto c = below-reach (offers c) _ _ _ (same c) (c .supply-at .ensures .0)
+upto c = below-upto _ (c .before .next-price .result) _ _ (below (c .before)) (c .supply-at .ensures .0)
 
 add-few : tie.Need-add-few Inv-loop μ-loop
 add-few c = search needs
@@ -90,8 +89,9 @@ returns : tie.Need-returns Inv-loop μ-loop
 returns c =
     let at = c .before .before in
     let start = at .before .before .before .before .before .before .before .before .before .before .before .before in (
-      reached-stops _ (offers (at .before .before)) (start .pre .0) _ (at .before .before .before .before .narrow .ensures .0) _ _ _
-          (same (at .before .before)) (at .before .before .supply-at .ensures .0) (rw (at .before .lesser .ensures) at (at .reached .ensures))
+      reached-stops (start .args .c) (offers start) (start .pre .0) _ (at .before .before .before .before .narrow .ensures .0) _ _ _
+          (below (at .before .before .before)) (at .before .before .supply-at .ensures .0)
+          (rw (at .before .lesser .ensures) at (at .reached .ensures))
           (at .before .before .before .next-price .ensures .high) (stop c) _ (c .level .ensures),
       omega (arith, c .level .ensures .total),
     )
@@ -114,8 +114,9 @@ loop-again : tie.Need-loop-again Inv-loop μ-loop
 loop-again c =
     let at = c .before .before in
     let start = at .before .before .before .before .before .before .before .before .before .before .before .before in
-    reached-all _ (offers (at .before .before)) (start .pre .0) _ (at .before .before .before .before .narrow .ensures .0) _ _ _
-    (same (at .before .before)) (at .before .before .supply-at .ensures .0) (rw (at .before .lesser .ensures) at (at .reached .ensures))
+    reached-all (start .args .c) (offers start) (start .pre .0) _ (at .before .before .before .before .narrow .ensures .0) _ _ _
+    (below (at .before .before .before)) (at .before .before .supply-at .ensures .0)
+    (rw (at .before .lesser .ensures) at (at .reached .ensures))
     (c .before .if1 .left) (under-most c)
 
 pub cleared-level-spec : {M : Type 1} → statement M
