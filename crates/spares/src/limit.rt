@@ -9,7 +9,7 @@ use crate::keys::lowest_from;
 ghost use Prim.Native.Nat.{_≤_, _<_};
 ghost use Rattle.spares.specs.Contest.{contenders};
 ghost use Rattle.spares.specs.Sieve.{Rows, keyOf};
-ghost use Rattle.spares.specs.Search.{Looked, Open, Parted, Between};
+ghost use Rattle.spares.specs.Search.{Between, Closer, Looked, Open, Parted};
 
 // Two numbers, and how many contend under each.
 pub struct Bracket {
@@ -71,6 +71,38 @@ fn look(keys: &[u32], standings: &[u32], n: usize, spare: u32, b: Bracket, mid: 
     }
 }
 
+// Moves the first number up to the next key, and looks just over it.
+fn raise(keys: &[u32], standings: &[u32], n: usize, spare: u32, b: Bracket) -> Bracket
+    requires { ⌜ Rows (now keys) (now standings) n ⌝ }
+    requires { ⌜ Between (contenders (now standings)) (keyOf (now keys)) n spare b ⌝ }
+    ensures { λ r. ⌜ Closer (contenders (now (standings .entry))) (keyOf (now (keys .entry))) n spare b r ⌝ }
+{
+    let low = lowest_from(keys, n, b.low, b.high);
+    let from = Bracket {
+        low,
+        few: b.few,
+        high: b.high,
+        many: b.many,
+    };
+    look(keys, standings, n, spare, from, low + 1)
+}
+
+// Moves the second number down to just over the last key before it, and looks at that key.
+fn lower(keys: &[u32], standings: &[u32], n: usize, spare: u32, b: Bracket) -> Bracket
+    requires { ⌜ Rows (now keys) (now standings) n ⌝ }
+    requires { ⌜ Between (contenders (now standings)) (keyOf (now keys)) n spare b ⌝ }
+    ensures { λ r. ⌜ Closer (contenders (now (standings .entry))) (keyOf (now (keys .entry))) n spare b r ⌝ }
+{
+    let last = highest_to(keys, n, b.low, b.high - 1);
+    let to = Bracket {
+        low: b.low,
+        few: b.few,
+        high: last + 1,
+        many: b.many,
+    };
+    look(keys, standings, n, spare, to, last)
+}
+
 // Looks at a number between the two. Where as many contend between them as before, it looks beside the nearest key too.
 fn turn(keys: &[u32], standings: &[u32], n: usize, spare: u32, b: Bracket, mid: u32) -> Bracket
     requires { ⌜ Rows (now keys) (now standings) n ⌝ }
@@ -83,23 +115,9 @@ fn turn(keys: &[u32], standings: &[u32], n: usize, spare: u32, b: Bracket, mid: 
         return a;
     }
     if b.low < a.low {
-        let low = lowest_from(keys, n, a.low, a.high);
-        let from = Bracket {
-            low,
-            few: a.few,
-            high: a.high,
-            many: a.many,
-        };
-        return look(keys, standings, n, spare, from, low + 1);
+        return raise(keys, standings, n, spare, a);
     }
-    let top = highest_to(keys, n, a.low, a.high - 1);
-    let to = Bracket {
-        low: a.low,
-        few: a.few,
-        high: top + 1,
-        many: a.many,
-    };
-    look(keys, standings, n, spare, to, top)
+    lower(keys, standings, n, spare, a)
 }
 
 // A key such that who contends under it wins and who contends over it does not.

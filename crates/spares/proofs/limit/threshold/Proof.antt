@@ -70,7 +70,7 @@ loop-less c =
     omega (arith, c .turn .ensures .nearer (inside .0) (inside .1), c .before .before .before .before .before .before .loop .inv .ordered)
 
 loop-again : tie.Need-loop-again Inv-loop μ-loop
-loop-again c = c .turn .ensures .between
+loop-again c = c .turn .ensures .closer .between
 
 returns-2 : tie.Need-returns-2 Inv-loop μ-loop
 returns-2 c =
