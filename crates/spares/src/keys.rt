@@ -13,7 +13,7 @@ fn differs(key: u32, first: u32) -> u32
     if key == first { 0 } else { 1 }
 }
 
-// All keys are the same.
+// All keys are the same. Those that are not mostly differ at the ends.
 pub fn alike(keys: &[u32], n: usize) -> bool
     requires { ⌜ (n ≤ length (now keys)) × (n ≤ 600) ⌝ }
     ensures { λ r. ⌜ (r ≡ true → Alike (keyOf (now (keys .entry))) n) ⌝ }
@@ -22,6 +22,9 @@ pub fn alike(keys: &[u32], n: usize) -> bool
         return true;
     }
     let first = keys[0];
+    if keys[n - 1] != first {
+        return false;
+    }
     let mut others: u32 = 0;
     let mut i: usize = 0;
     while i < n {

@@ -1,8 +1,8 @@
 // The limit to hold a key to: who contends under it wins, and who contends over it does not.
 //
-// It is looked for between two numbers that close in on it. A look counts the contenders under a number between them: in
-// proportion to the counts and at the middle by turns, so that there are few looks where keys are spread evenly and never
-// many.
+// It is looked for between two numbers that close in on it. A look counts the contenders under a number between them, by
+// turns in proportion to the counts and at the middle: few looks where keys are spread evenly, and never many. Where equal
+// keys or gaps leave as many contenders between the two as before, the nearest key is looked at too.
 use crate::count::under;
 use crate::keys::highest_to;
 use crate::keys::lowest_from;
@@ -33,7 +33,7 @@ fn portion(room: u32, part: u32, whole: u32) -> u32
     (room as u64 * part as u64 / whole as u64) as u32
 }
 
-// A number between the two: the middle, or as far from the first as the spare tenths reach of the counts.
+// A number between the two: the middle, or as far up as the spare tenths go of the contenders between them.
 fn probe(b: Bracket, spare: u32, halve: bool) -> u32
     requires { ⌜ Open spare b ⌝ }
     ensures { λ r. ⌜ (b .low < r) × (r < b .high) ⌝ }
@@ -103,7 +103,7 @@ fn lower(keys: &[u32], standings: &[u32], n: usize, spare: u32, b: Bracket) -> B
     look(keys, standings, n, spare, to, last)
 }
 
-// Looks at a number between the two. Where as many contend between them as before, it looks beside the nearest key too.
+// Looks at a number between the two, and where as many contend between them as before, beside the nearest key.
 fn turn(keys: &[u32], standings: &[u32], n: usize, spare: u32, b: Bracket, mid: u32) -> Bracket
     requires { ⌜ Rows (now keys) (now standings) n ⌝ }
     requires { ⌜ Between (contenders (now standings)) (keyOf (now keys)) n spare b ⌝ }
