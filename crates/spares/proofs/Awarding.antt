@@ -7,12 +7,15 @@ use mathlib.Core.Bool.{Bool, cond, _||_}
 use mathlib.Core.List.{List}
 use Prim.Native.Nat.{ℕ, _≤_, _<_}
 use native.Mathlib.Omega.{arith}
-use lib.ListN.{getD}
+use lib.ListN.{length, getD}
 use borrow.Author.Tests.{ne-eqb}
+use Rattle.laws.specs.Filled.{filled}
+use Rattle.laws.proofs.FilledRows.{filled-row, filled-past}
+use Rattle.laws.proofs.Filling.{length-filling}
 use Rattle.laws.proofs.Orders.{byKey, byKey-order, thenBy-order}
 use Rattle.spares.specs.Contest.{wins, contenders, inOrder}
 use Rattle.spares.specs.Sieve.{keyOf, settled, winners}
-use Rattle.spares.specs.Award.{Awarded, Rewritten, Sifted, Told}
+use Rattle.spares.specs.Award.{Awarded, Sifted, Told}
 use Rattle.spares.proofs.Telling.{told-then}
 use Rattle.spares.proofs.Winning.{noOrder, wins-last, wins-level}
 
@@ -57,13 +60,13 @@ module _ (k₁ k₂ k₃ k₄ : List ℕ) (n spare : ℕ) (entry : List ℕ) whe
       ∙ ap (λ (b : Bool). b || won i) (ne-eqb (getD entry i 0) 2 (omega arith)))
 
   -- four keys told, and what each row receives put in the place of its standing
-  pub awarded : (l₁ l₂ l₃ left : ℕ) (s₁ s₂ s₃ told exit : List ℕ) → ((i : ℕ) → i < n → getD entry i 0 ≤ 1)
+  pub awarded : (l₁ l₂ l₃ left : ℕ) (s₁ s₂ s₃ told exit : List ℕ) → n ≤ length entry → ((i : ℕ) → i < n → getD entry i 0 ≤ 1)
       → Sifted k₁ n entry spare s₁ l₁ → Sifted k₂ n s₁ l₁ s₂ l₂ → Sifted k₃ n s₂ l₂ s₃ l₃ → Sifted k₄ n s₃ l₃ told left
-      → Rewritten (settled told left) n told exit → Awarded k₁ k₂ k₃ k₄ entry n spare exit
-  awarded l₁ l₂ l₃ left s₁ s₂ s₃ told exit fresh first second third fourth end =
+      → exit ≡ filled (settled told left) n told → Awarded k₁ k₂ k₃ k₄ entry n spare exit
+  awarded l₁ l₂ l₃ left s₁ s₂ s₃ told exit long fresh first second third fourth end =
       let a = told-four l₁ l₂ l₃ left s₁ s₂ s₃ told first second third fourth in
       record {
-        rows = end .rows ∙ a .rows;
-        within = λ i l. end .within i l ∙ receives-won left i told l (fresh i l) a;
-        beyond = λ i l. end .beyond i l ∙ a .beyond i l;
+        rows = length-filling _ n told end ∙ a .rows;
+        within = λ i l. filled-row _ n told end (rw (a .rows) long) i l ∙ receives-won left i told l (fresh i l) a;
+        beyond = λ i l. filled-past _ n told end i l ∙ a .beyond i l;
       }

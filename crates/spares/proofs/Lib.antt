@@ -3,6 +3,5 @@ pub mod Winning
 pub mod Steps
 pub mod Parting
 pub mod Closing
-pub mod Rewriting
 pub mod Telling
 pub mod Awarding

@@ -6,17 +6,20 @@
 use mathlib.Core.Path.{_≡_, refl, sym, ap, ap₂, _∙_}
 use mathlib.Core.Bool.{Bool, _&&_, _||_, or-assoc, or-false}
 use mathlib.Core.List.{List}
-use Prim.Native.Nat.{ℕ, _-_, _<_}
+use Prim.Native.Nat.{ℕ, _-_, _≤_, _<_}
 use native.Mathlib.Omega.{arith}
-use lib.ListN.{getD}
+use lib.ListN.{length, getD}
 use lib.Dec.{ltb, eqb}
 use borrow.Author.Tests.{lt-ltb, le-ltb, eq-eqb, ne-eqb}
+use Rattle.laws.specs.Filled.{filled}
 use Rattle.laws.proofs.Cases.{by-equality}
+use Rattle.laws.proofs.FilledRows.{filled-row, filled-past}
+use Rattle.laws.proofs.Filling.{length-filling}
 use Rattle.laws.proofs.Orders.{by-comparison, thenBy-equal}
 use Rattle.spares.specs.Contest.{contenders}
 use Rattle.spares.specs.Sieve.{Parts, countUnder, held, keyOf, stands, winners}
 use Rattle.spares.specs.Nearest.{Alike}
-use Rattle.spares.specs.Award.{Rewritten, Sifted, Told}
+use Rattle.spares.specs.Award.{Sifted, Told}
 use Rattle.spares.proofs.Steps.{level, sift-step}
 use Rattle.spares.proofs.Winning.{wins-contenders, wins-order, wins-nothing}
 
@@ -44,15 +47,16 @@ stands-won x k t =
     (λ l. rw (le-ltb k t (omega arith), ne-eqb k t (omega arith)))))
     (λ h. rw (ne-eqb x 1 h) (sym (or-false (eqb x 2))))
 
-module _ (keys entry exit : List ℕ) (n spare limit : ℕ) (kept : Rewritten (held keys entry limit) n entry exit) where
+module _ (keys entry exit : List ℕ) (n spare limit : ℕ) (long : n ≤ length entry)
+    (kept : exit ≡ filled (held keys entry limit) n entry) where
   -- the same of the rows of a list
   contends-after : (j : ℕ) → j < n → contenders exit j ≡ level (contenders entry) (keyOf keys) limit j
   unfolding held
-  contends-after j l = ap (λ (x : ℕ). eqb x 1) (kept .within j l) ∙ stands-contends (getD entry j 0) (keyOf keys j) limit
+  contends-after j l = ap (λ (x : ℕ). eqb x 1) (filled-row _ n entry kept long j l) ∙ stands-contends (getD entry j 0) (keyOf keys j) limit
 
   won-after : (i : ℕ) → i < n → winners exit i ≡ winners entry i || (contenders entry i && ltb (keyOf keys i) limit)
   unfolding held
-  won-after i l = ap (λ (x : ℕ). eqb x 2) (kept .within i l) ∙ stands-won (getD entry i 0) (keyOf keys i) limit
+  won-after i l = ap (λ (x : ℕ). eqb x 2) (filled-row _ n entry kept long i l) ∙ stands-won (getD entry i 0) (keyOf keys i) limit
 
   -- a key held to a limit that parts the contenders is told
   pub told-key : (won : ℕ) → won ≡ countUnder (contenders entry) (keyOf keys) limit n
@@ -60,12 +64,12 @@ module _ (keys entry exit : List ℕ) (n spare limit : ℕ) (kept : Rewritten (h
   told-key won e parts rest irreflexive =
       rw e
       (record {
-        rows = kept .rows;
+        rows = length-filling _ n entry kept;
         within = λ i l.
             ap₂ _||_ (won-after i l) (wins-contenders _ _ rest n _ i contends-after l)
             ∙ or-assoc (winners entry i) _ _
             ∙ ap (λ (b : Bool). winners entry i || b) (sym (sift-step _ _ rest n spare limit i parts l (irreflexive i)));
-        beyond = kept .beyond;
+        beyond = filled-past _ n entry kept;
       })
 
 -- where nothing is left the standings tell it all

@@ -1,4 +1,4 @@
--- What the functions over a whole list of standings leave behind.
+-- What the contest by one key, and by all four, leaves of a list of standings.
 -- Assumes nothing.
 use Prim.Native.Nat.{ℕ, _≤_, _<_}
 use mathlib.Core.Path.{_≡_}
@@ -8,15 +8,6 @@ use lib.ListN.{length, getD}
 use Rattle.laws.proofs.Orders.{thenBy}
 use Rattle.spares.specs.Contest.{wins, contenders, inOrder}
 use Rattle.spares.specs.Sieve.{comesOut, keyOf}
-
--- a list of standings rewritten at its first n rows
-pub record Rewritten (standing : ℕ → ℕ) (n : ℕ) (entry exit : List ℕ) : Type 0 where
-  -- there are as many rows as before
-  pub rows : length exit ≡ length entry
-  -- each of the first n stands as is said of it
-  pub within : (i : ℕ) → i < n → getD exit i 0 ≡ standing i
-  -- the others stand as they did
-  pub beyond : (i : ℕ) → n ≤ i → getD exit i 0 ≡ getD entry i 0
 
 -- a contest with its first part told: who comes out by the whole order comes out by the rest of it, for what is left
 pub record Told (n : ℕ) (whole rest : ℕ → ℕ → Bool) (entry : List ℕ) (spare : ℕ) (exit : List ℕ) (left : ℕ) : Type 0 where
@@ -45,7 +36,11 @@ pub record Ready (k₁ k₂ k₃ k₄ standings : List ℕ) (n : ℕ) : Type 0 w
   -- a row contends or does not: none has won yet
   pub fresh : (i : ℕ) → i < n → getD standings i 0 ≤ 1
 
--- each of the first n rows stands at 1 where it wins a spare tenth by the four keys, and else at 0
-abbrev pub Awarded : List ℕ → List ℕ → List ℕ → List ℕ → List ℕ → ℕ → ℕ → List ℕ → Type 0
-Awarded k₁ k₂ k₃ k₄ entry n spare exit =
-    Rewritten (λ i. cond (wins (contenders entry) (inOrder k₁ k₂ k₃ k₄) n spare i) 1 0) n entry exit
+-- what `award` leaves
+pub record Awarded (k₁ k₂ k₃ k₄ entry : List ℕ) (n spare : ℕ) (exit : List ℕ) : Type 0 where
+  -- there are as many rows as before
+  pub rows : length exit ≡ length entry
+  -- each of the first n stands at 1 where it wins a spare tenth by the four keys, and else at 0
+  pub within : (i : ℕ) → i < n → getD exit i 0 ≡ cond (wins (contenders entry) (inOrder k₁ k₂ k₃ k₄) n spare i) 1 0
+  -- the others stand as they did
+  pub beyond : (i : ℕ) → n ≤ i → getD exit i 0 ≡ getD entry i 0

@@ -23,11 +23,14 @@ pub record Open (spare : ℕ) (b : Bracket) : Type 0 where
   pub book : b .many ≤ 600
   pub room : suc (b .low) < b .high
 
--- after a look at `mid` the limit lies between two numbers that are no further apart
-pub record Looked (contends : ℕ → Bool) (key : ℕ → ℕ) (n spare : ℕ) (b : Bracket) (mid : ℕ) (r : Bracket) : Type 0 where
+-- the limit lies between two numbers that are no further apart
+pub record Closer (contends : ℕ → Bool) (key : ℕ → ℕ) (n spare : ℕ) (b r : Bracket) : Type 0 where
   pub between : Between contends key n spare r
   pub apart : r .high + b .low ≤ r .low + b .high
-  -- where `mid` lay between the two, they are nearer
+
+-- the same after a look at `mid`, and where that lay between the two they are nearer
+pub record Looked (contends : ℕ → Bool) (key : ℕ → ℕ) (n spare : ℕ) (b : Bracket) (mid : ℕ) (r : Bracket) : Type 0 where
+  pub closer : Closer contends key n spare b r
   pub nearer : b .low < mid → mid < b .high → r .high + b .low < r .low + b .high
 
 -- a limit that parts the contenders, and how many contend under it

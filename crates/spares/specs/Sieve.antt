@@ -25,10 +25,6 @@ pub record Rows (keys standings : List ℕ) (n : ℕ) : Type 0 where
 unfoldable pub countUnder : (ℕ → Bool) → (ℕ → ℕ) → ℕ → ℕ → ℕ
 countUnder contends key limit n = countWhere (λ i. contends i && ltb (key i) limit) n
 
--- no contender of the n rows has a key over `top`
-abbrev pub AtMost : (ℕ → Bool) → (ℕ → ℕ) → ℕ → ℕ → Type 0
-AtMost contends key n top = (i : ℕ) → i < n → contends i ≡ true → key i ≤ top
-
 -- a key such that who contends under it wins, and who contends over it does not
 pub record Parts (contends : ℕ → Bool) (key : ℕ → ℕ) (n spare limit : ℕ) : Type 0 where
   -- at most `spare` contenders have a lower key

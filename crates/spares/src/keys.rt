@@ -13,7 +13,7 @@ fn differs(key: u32, first: u32) -> u32
     if key == first { 0 } else { 1 }
 }
 
-// All keys are the same.
+// All keys are the same. Those that are not mostly differ at the ends.
 pub fn alike(keys: &[u32], n: usize) -> bool
     requires { ⌜ (n ≤ length (now keys)) × (n ≤ 600) ⌝ }
     ensures { λ r. ⌜ (r ≡ true → Alike (keyOf (now (keys .entry))) n) ⌝ }
@@ -22,6 +22,9 @@ pub fn alike(keys: &[u32], n: usize) -> bool
         return true;
     }
     let first = keys[0];
+    if keys[n - 1] != first {
+        return false;
+    }
     let mut others: u32 = 0;
     let mut i: usize = 0;
     while i < n {
@@ -31,8 +34,8 @@ pub fn alike(keys: &[u32], n: usize) -> bool
     others == 0
 }
 
-// The lower of two numbers.
-fn lower(a: u32, b: u32) -> u32
+// The lesser of two numbers.
+fn lesser(a: u32, b: u32) -> u32
     ensures { λ r. ⌜ r ≡ min a b ⌝ }
 {
     if b < a { b } else { a }
@@ -53,14 +56,14 @@ pub fn lowest_from(keys: &[u32], n: usize, low: u32, high: u32) -> u32
     let mut lowest = high;
     let mut i: usize = 0;
     while i < n {
-        lowest = lower(lowest, from(keys[i], low));
+        lowest = lesser(lowest, from(keys[i], low));
         i += 1;
     }
     lowest
 }
 
-// The higher of two numbers.
-fn higher(a: u32, b: u32) -> u32
+// The greater of two numbers.
+fn greater(a: u32, b: u32) -> u32
     ensures { λ r. ⌜ r ≡ max a b ⌝ }
 {
     if a < b { b } else { a }
@@ -81,7 +84,7 @@ pub fn highest_to(keys: &[u32], n: usize, low: u32, top: u32) -> u32
     let mut highest = low;
     let mut i: usize = 0;
     while i < n {
-        highest = higher(highest, up_to(keys[i], top));
+        highest = greater(highest, up_to(keys[i], top));
         i += 1;
     }
     highest

@@ -9,8 +9,9 @@ mod limit;
 ghost use mathlib.Core.Path.{_≡_};
 ghost use Prim.Native.Nat.{_≤_};
 ghost use lib.ListN.{length};
+ghost use Rattle.laws.specs.Filled.{filled};
 ghost use Rattle.spares.specs.Sieve.{Rows, held, receives, settled, stands};
-ghost use Rattle.spares.specs.Award.{Awarded, Ready, Rewritten, Sifted};
+ghost use Rattle.spares.specs.Award.{Awarded, Ready, Sifted};
 
 // Where a row stands after its key is held to the limit: a contender has won under it, contends at it, and is out over it.
 fn sifted(standing: u32, key: u32, limit: u32) -> u32
@@ -31,7 +32,7 @@ fn sifted(standing: u32, key: u32, limit: u32) -> u32
 // Holds each row's key to the limit.
 fn hold(keys: &[u32], standings: &mut [u32], n: usize, limit: u32)
     requires { ⌜ Rows (now keys) (now standings) n ⌝ }
-    ensures { λ r. ⌜ Rewritten (held (now (keys .entry)) (now (standings .entry)) limit) n (now (standings .entry)) (now (standings .exit)) ⌝ }
+    ensures { λ r. ⌜ now (standings .exit) ≡ filled (held (now (keys .entry)) (now (standings .entry)) limit) n (now (standings .entry)) ⌝ }
 {
     let mut i: usize = 0;
     while i < n {
@@ -40,7 +41,8 @@ fn hold(keys: &[u32], standings: &mut [u32], n: usize, limit: u32)
     }
 }
 
-// Tells the contest by one key, and returns what is left of the spare tenths. Where nothing is left there is nothing to tell.
+// Tells the contest by one key, and returns what is left of the spare tenths. Where nothing is left, or all keys are alike,
+// there is nothing to tell.
 fn sift(keys: &[u32], standings: &mut [u32], n: usize, spare: u32) -> u32
     requires { ⌜ Rows (now keys) (now standings) n ⌝ }
     ensures { λ r. ⌜ Sifted (now (keys .entry)) n (now (standings .entry)) spare (now (standings .exit)) r ⌝ }
@@ -74,7 +76,7 @@ fn received(standing: u32, left: u32) -> u32
 // Puts what each row receives in the place of its standing.
 fn settle(standings: &mut [u32], n: usize, left: u32)
     requires { ⌜ n ≤ length (now standings) ⌝ }
-    ensures { λ r. ⌜ Rewritten (settled (now (standings .entry)) left) n (now (standings .entry)) (now (standings .exit)) ⌝ }
+    ensures { λ r. ⌜ now (standings .exit) ≡ filled (settled (now (standings .entry)) left) n (now (standings .entry)) ⌝ }
 {
     let mut i: usize = 0;
     while i < n {

@@ -1,15 +1,15 @@
 // The limit to hold a key to: who contends under it wins, and who contends over it does not.
 //
-// It is looked for between two numbers that close in on it. A look counts the contenders under a number between them: in
-// proportion to the counts and at the middle by turns, so that there are few looks where keys are spread evenly and never
-// many.
+// It is looked for between two numbers that close in on it. A look counts the contenders under a number between them, by
+// turns in proportion to the counts and at the middle: few looks where keys are spread evenly, and never many. Where equal
+// keys or gaps leave as many contenders between the two as before, the nearest key is looked at too.
 use crate::count::under;
 use crate::keys::highest_to;
 use crate::keys::lowest_from;
 ghost use Prim.Native.Nat.{_≤_, _<_};
 ghost use Rattle.spares.specs.Contest.{contenders};
 ghost use Rattle.spares.specs.Sieve.{Rows, keyOf};
-ghost use Rattle.spares.specs.Search.{Looked, Open, Parted, Between};
+ghost use Rattle.spares.specs.Search.{Between, Closer, Looked, Open, Parted};
 
 // Two numbers, and how many contend under each.
 pub struct Bracket {
@@ -33,7 +33,7 @@ fn portion(room: u32, part: u32, whole: u32) -> u32
     (room as u64 * part as u64 / whole as u64) as u32
 }
 
-// A number between the two: the middle, or as far from the first as the spare tenths reach of the counts.
+// A number between the two: the middle, or as far up as the spare tenths go of the contenders between them.
 fn probe(b: Bracket, spare: u32, halve: bool) -> u32
     requires { ⌜ Open spare b ⌝ }
     ensures { λ r. ⌜ (b .low < r) × (r < b .high) ⌝ }
@@ -71,7 +71,39 @@ fn look(keys: &[u32], standings: &[u32], n: usize, spare: u32, b: Bracket, mid: 
     }
 }
 
-// Looks at a number between the two. Where as many contend between them as before, it looks beside the nearest key too.
+// Moves the first number up to the next key, and looks just over it.
+fn raise(keys: &[u32], standings: &[u32], n: usize, spare: u32, b: Bracket) -> Bracket
+    requires { ⌜ Rows (now keys) (now standings) n ⌝ }
+    requires { ⌜ Between (contenders (now standings)) (keyOf (now keys)) n spare b ⌝ }
+    ensures { λ r. ⌜ Closer (contenders (now (standings .entry))) (keyOf (now (keys .entry))) n spare b r ⌝ }
+{
+    let low = lowest_from(keys, n, b.low, b.high);
+    let from = Bracket {
+        low,
+        few: b.few,
+        high: b.high,
+        many: b.many,
+    };
+    look(keys, standings, n, spare, from, low + 1)
+}
+
+// Moves the second number down to just over the last key before it, and looks at that key.
+fn lower(keys: &[u32], standings: &[u32], n: usize, spare: u32, b: Bracket) -> Bracket
+    requires { ⌜ Rows (now keys) (now standings) n ⌝ }
+    requires { ⌜ Between (contenders (now standings)) (keyOf (now keys)) n spare b ⌝ }
+    ensures { λ r. ⌜ Closer (contenders (now (standings .entry))) (keyOf (now (keys .entry))) n spare b r ⌝ }
+{
+    let last = highest_to(keys, n, b.low, b.high - 1);
+    let to = Bracket {
+        low: b.low,
+        few: b.few,
+        high: last + 1,
+        many: b.many,
+    };
+    look(keys, standings, n, spare, to, last)
+}
+
+// Looks at a number between the two, and where as many contend between them as before, beside the nearest key.
 fn turn(keys: &[u32], standings: &[u32], n: usize, spare: u32, b: Bracket, mid: u32) -> Bracket
     requires { ⌜ Rows (now keys) (now standings) n ⌝ }
     requires { ⌜ Between (contenders (now standings)) (keyOf (now keys)) n spare b ⌝ }
@@ -83,23 +115,9 @@ fn turn(keys: &[u32], standings: &[u32], n: usize, spare: u32, b: Bracket, mid: 
         return a;
     }
     if b.low < a.low {
-        let low = lowest_from(keys, n, a.low, a.high);
-        let from = Bracket {
-            low,
-            few: a.few,
-            high: a.high,
-            many: a.many,
-        };
-        return look(keys, standings, n, spare, from, low + 1);
+        return raise(keys, standings, n, spare, a);
     }
-    let top = highest_to(keys, n, a.low, a.high - 1);
-    let to = Bracket {
-        low: a.low,
-        few: a.few,
-        high: top + 1,
-        many: a.many,
-    };
-    look(keys, standings, n, spare, to, top)
+    lower(keys, standings, n, spare, a)
 }
 
 // A key such that who contends under it wins and who contends over it does not.

@@ -32,6 +32,7 @@ returns c =
     let start = first .before .before .before .before .before .before .before in
     let a = start .args in
     awarded (a .k1 .now) (a .k2 .now) (a .k3 .now) (a .k4 .now) _ _ _ _ _ _ _ _ _ _ _ _
+    (start .pre .standing)
     (start .pre .fresh)
     (first .sift .ensures)
     (second .sift2 .ensures)

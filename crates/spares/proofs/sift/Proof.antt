@@ -34,8 +34,10 @@ same-length c = search needs
 
 returns-3 : tie.Need-returns-3
 returns-3 c =
-    let parted = c .before .before .before .before .before .threshold .ensures in
-    told-key _ _ _ _ _ _ (c .before .before .before .hold .ensures) _ (parted .won) (parted .parts)
+    let threshold = c .before .before .before .before .before in
+    let parted = threshold .threshold .ensures in
+    let entry = threshold .before .before .before .before .before .before .before in
+    told-key _ _ _ _ _ _ (entry .pre .standing) (c .before .before .before .hold .ensures) _ (parted .won) (parted .parts)
 
 pub sift-spec : {M : Type 1} → statement M
 sift-spec =

@@ -2,6 +2,7 @@
 -- the first.
 -- Assumes nothing.
 use mathlib.Core.Path.{_≡_}
+use mathlib.Core.Bool.{false≢true}
 use Prim.Native.Nat.{ℕ, _≤_, _<_, _-_}
 use native.Mathlib.Omega.{arith}
 use lib.ListN.{getD}
@@ -23,6 +24,18 @@ returns c = λ e i l. absurd (omega arith)
 
 shared-slice-read-first : tie.Need-shared-slice-read-first Inv-loop μ-loop
 shared-slice-read-first c = search needs
+
+sub-if2 : tie.Need-sub-if2 Inv-loop μ-loop
+sub-if2 c = search needs
+
+mul-if2 : tie.Need-mul-if2 Inv-loop μ-loop
+mul-if2 c = search needs
+
+shared-slice-read-if2 : tie.Need-shared-slice-read-if2 Inv-loop μ-loop
+shared-slice-read-if2 c = search needs
+
+returns-2 : tie.Need-returns-2 Inv-loop μ-loop
+returns-2 c = λ e. absurd (false≢true e)
 
 loop-holds : tie.Need-loop-holds Inv-loop μ-loop
 loop-holds c = (omega arith, omega arith, λ e. below-none _)
@@ -53,8 +66,8 @@ loop-again c =
       λ e. below-more _ _ (before (omega arith)) (c .differs .ensures .1 (omega arith)),
     )
 
-returns-2 : tie.Need-returns-2 Inv-loop μ-loop
-returns-2 c = λ e i l. c .before .loop .inv .2 (eqb-true _ 0 e) i (omega arith)
+returns-3 : tie.Need-returns-3 Inv-loop μ-loop
+returns-3 c = λ e i l. c .before .loop .inv .2 (eqb-true _ 0 e) i (omega arith)
 
 pub alike-spec : {M : Type 1} → statement M
 alike-spec =
@@ -64,6 +77,10 @@ alike-spec =
     μ-loop
     returns
     shared-slice-read-first
+    sub-if2
+    mul-if2
+    shared-slice-read-if2
+    returns-2
     loop-holds
     mul-differs
     shared-slice-read-differs
@@ -72,4 +89,4 @@ alike-spec =
     add-i
     loop-less
     loop-again
-    returns-2)
+    returns-3)

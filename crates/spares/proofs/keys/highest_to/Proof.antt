@@ -27,8 +27,8 @@ shared-slice-read-up-to c = search needs
 up-to-requires : tie.Need-up-to-requires Inv-loop μ-loop
 up-to-requires c κs = search needs
 
-higher-requires : tie.Need-higher-requires Inv-loop μ-loop
-higher-requires c κs = search needs
+greater-requires : tie.Need-greater-requires Inv-loop μ-loop
+greater-requires c κs = search needs
 
 add-i : tie.Need-add-i Inv-loop μ-loop
 add-i c = search needs
@@ -62,7 +62,7 @@ highest-to-spec =
     mul-up-to
     shared-slice-read-up-to
     up-to-requires
-    higher-requires
+    greater-requires
     add-i
     loop-less
     loop-again

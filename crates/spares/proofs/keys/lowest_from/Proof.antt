@@ -27,8 +27,8 @@ shared-slice-read-from c = search needs
 from-requires : tie.Need-from-requires Inv-loop μ-loop
 from-requires c κs = search needs
 
-lower-requires : tie.Need-lower-requires Inv-loop μ-loop
-lower-requires c κs = search needs
+lesser-requires : tie.Need-lesser-requires Inv-loop μ-loop
+lesser-requires c κs = search needs
 
 add-i : tie.Need-add-i Inv-loop μ-loop
 add-i c = search needs
@@ -62,7 +62,7 @@ lowest-from-spec =
     mul-from
     shared-slice-read-from
     from-requires
-    lower-requires
+    lesser-requires
     add-i
     loop-less
     loop-again

@@ -1,7 +1,7 @@
 -- `threshold` finds a key that parts the contenders. The loop's invariant: at most `spare` contend under the first of two
 -- numbers, and more under the second.
 -- Assumes nothing.
-use Prim.Native.Nat.{_-_, _<_}
+use Prim.Native.Nat.{_-_}
 use native.Mathlib.Omega.{arith}
 use borrow.Author.Needs.{needs}
 use borrow.Author.Tests.{ltb-true, ltb-false}
@@ -51,14 +51,12 @@ sub-if3 c = search needs
 
 probe-requires : tie.Need-probe-requires Inv-loop μ-loop
 probe-requires c κs =
-    let b = c .before .before .before .before .loop .b in
-    let room : 1 < b .high - b .low = ltb-true 1 _ (c .if3 .taken) in
     let between = c .before .before .before .before .loop .inv in
     record {
       some = c .before .before .if2 .taken;
       short = between .short;
       book = between .book;
-      room = omega arith;
+      room = omega (arith, ltb-true);
     }
 
 turn-requires : tie.Need-turn-requires Inv-loop μ-loop
@@ -70,12 +68,12 @@ loop-less c =
     omega (arith, c .turn .ensures .nearer (inside .0) (inside .1), c .before .before .before .before .before .before .loop .inv .ordered)
 
 loop-again : tie.Need-loop-again Inv-loop μ-loop
-loop-again c = c .turn .ensures .between
+loop-again c = c .turn .ensures .closer .between
 
 returns-2 : tie.Need-returns-2 Inv-loop μ-loop
 returns-2 c =
     let between = c .before .before .before .before .loop .inv in
-    record { parts = found-next _ _ _ _ _ between (ltb-false 1 _ (c .if3 .left)); won = between .few }
+    record { parts = found-next _ _ _ _ _ between (omega (arith, ltb-false)); won = between .few }
 
 returns-3 : tie.Need-returns-3 Inv-loop μ-loop
 returns-3 c =
