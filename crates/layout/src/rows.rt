@@ -31,30 +31,35 @@ fn used_holds(p: &[u8]) -> bool
     absent_holds(p, 16, marks, 2)
 }
 
-// Whether a place of a block is laid out as a used one, or as one that is not.
-fn place_holds(used: bool, p: &[u8]) -> bool
-    requires { ⌜ 32 ≤ length (now p) ⌝ }
-    ensures { λ r. ⌜ r ≡ placeHolds used (now (p .entry)) ⌝ }
-{
-    if used {
-        used_holds(p)
-    } else {
-        is_blank(p, 0, PLACE_SIZE)
-    }
-}
-
-// Whether all fifteen places of a block hold, of which the first are used. Each is a part of the block.
-fn places_hold(s: &[u8], here: usize) -> bool
+// Whether all fifteen places of a block are laid out as used ones. Each is a part of the block.
+fn all_hold(s: &[u8]) -> bool
     requires { ⌜ 512 ≤ length (now s) ⌝ }
-    ensures { λ r. ⌜ r ≡ every (λ i. placeHolds (ltb i here) (placeOf (now (s .entry)) i)) 15 ⌝ }
+    ensures { λ r. ⌜ r ≡ every (λ i. usedHolds (placeOf (now (s .entry)) i)) 15 ⌝ }
 {
     for i in 0..PLACES {
         let at = PLACES_FROM + i * PLACE_SIZE;
-        if !place_holds(i < here, &s[at..at + PLACE_SIZE]) {
+        if !used_holds(&s[at..at + PLACE_SIZE]) {
             return false;
         }
     }
     true
+}
+
+// Whether all fifteen places of a block hold, of which the first are used. An unused one is all zero, as a used one may be, so
+// that what is left to test is the bytes from the first of them on.
+fn places_hold(s: &[u8], here: usize) -> bool
+    requires { ⌜ 512 ≤ length (now s) ⌝ }
+    ensures { λ r. ⌜ r ≡ every (λ i. placeHolds (ltb i here) (placeOf (now (s .entry)) i)) 15 ⌝ }
+{
+    if !all_hold(s) {
+        return false;
+    }
+    if PLACES <= here {
+        return true;
+    }
+    let from = PLACES_FROM + here * PLACE_SIZE;
+    let left = (PLACES - here) * PLACE_SIZE;
+    is_blank(s, from, left)
 }
 
 // How many of so many rows stand in block k, from 1.
