@@ -1,4 +1,4 @@
--- The cleared total: what it is, that it is alone, and how a search by halves finds it.
+-- The cleared total: what it is, that it is alone, and what holds below and past it.
 -- Assumes nothing.
 use mathlib.Core.Path.{_≡_}
 use mathlib.Core.Bool.{Bool}
@@ -9,7 +9,6 @@ use lib.Dec.{leb}
 use borrow.Author.Tests.{leb-true, le-leb}
 use Rattle.laws.proofs.Cases.{by-order}
 use Rattle.laws.proofs.Largests.{Closed, largest-is, largest-passes}
-use Rattle.laws.proofs.Halving.{Halving, halving-met}
 use Rattle.auction.specs.Offers.{Offers, Demand, Falling, supply}
 use Rattle.auction.specs.Clearing.{clearedTotal}
 use Rattle.auction.proofs.Supply.{supply-mono}
@@ -56,12 +55,6 @@ supplied-down d o falling k l h =
 
 pub supplies-closed : (d : Demand) (o : Offers) → Falling d → Closed (supplies d o) (d .last)
 supplies-closed d o falling k l e = le-leb k _ (supplied-down d o falling k l (leb-true _ _ e))
-
--- where the ends of a search by halves meet, they meet at the cleared total
-pub total-met : (d : Demand) (o : Offers) → Falling d
-    → (low high : ℕ) → Halving (supplies d o) (d .last) low high → high ≤ low → low ≡ clearedTotal d o
-unfolding clearedTotal
-total-met d o falling low high h l = halving-met (supplies d o) (d .last) low high (supplies-closed d o falling) h l
 
 -- past the total, no more than it is offered at the curve price
 pub supply-past-total : (d : Demand) (o : Offers) (x : ℕ) → Falling d → IsTotal d o x

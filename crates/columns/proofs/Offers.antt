@@ -17,11 +17,7 @@ module _ (b : List ℕ) (row : ℕ) where
   pub stamp-halves : highOf b row * 4294967296 + lowOf b row ≡ bookOffer b row .stamp
   stamp-halves = omega arith
 
-  -- the upper half of a stamp of 64 bits has 32
-  pub high-small : bookOffer b row .stamp < 18446744073709551616 → highOf b row < 4294967296
-  high-small h = omega arith
-
-  -- and so has the lower half of any
+  -- the lower half has 32 bits
   pub low-small : lowOf b row < 4294967296
   low-small = omega arith
 

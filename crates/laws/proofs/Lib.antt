@@ -12,7 +12,6 @@ pub mod Remainders
 pub mod Loops
 pub mod Everys
 pub mod Altered
-pub mod Halving
 pub mod Compare
 pub mod Quotients
 pub mod Nearests

@@ -96,11 +96,6 @@ module _ (pricesNeeded : Bool) (offers : ℕ → Offer) where
   rows-limit : (n : ℕ) → Limit n (limitOf n)
   rows-limit n = by-first valuesTest n (limit-passed n) (limit-refused n)
 
-  -- The rows before the one that is refused by 6 or 7 are among the n.
-  pub rowsBefore-le : (n : ℕ) → rowsBefore (valuesFault pricesNeeded offers n) n ≤ n
-  unfolding valuesFault
-  rowsBefore-le n = rows-limit n .within
-
   -- ---- the first fault of n rows
 
   module _ (resources : ℕ → ℕ) (n : ℕ) (agree : (row : ℕ) → row < limitOf n → resources row ≡ resource row) where
