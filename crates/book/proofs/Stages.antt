@@ -59,6 +59,10 @@ module _ (b : List ℕ) {number place : ℕ} (refused : formFault b ≡ Refused 
   unfolding soundFault
   sound-form-refused = andThen-refused (formFault b) _ number place refused
 
+-- so it is where the length is
+pub stated-length : (b : List ℕ) {number place : ℕ} → lengthFault b ≡ Refused number place → statedFault b ≡ Refused number place
+stated-length b e = stated-form-refused b (form-length b e)
+
 -- ---- the form passed
 
 module _ (b : List ℕ) (formed : formFault b ≡ Passed) where

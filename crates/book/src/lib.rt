@@ -12,6 +12,8 @@ use values::Verdict;
 use values::head::parameters_in;
 ghost use mathlib.Core.Path.{_≡_};
 ghost use Rattle.values.specs.Refusals.{andThen};
+ghost use Rattle.values.specs.declared.Verdict.the-variants.{Passed};
+ghost use Rattle.layout.specs.Form.{lengthFault};
 ghost use Rattle.book.specs.Faults.{statedFault, firstFault, soundFault};
 
 // The first fault of two tests: the second's where the first passed.
@@ -24,14 +26,11 @@ pub fn and_then(test: Verdict, next: Verdict) -> Verdict
     }
 }
 
-// The first fault before the rows of a book that is to be cleared: 1, 2, 3, then 4, then 5. A wrong length is told before any
-// other work.
+// The first fault before the rows of a book that is to be cleared and whose length holds: 2, 3, then 4, then 5.
 pub fn stated_fault(book: &[u8]) -> Verdict
+    requires { ⌜ lengthFault (now book) ≡ Passed ⌝ }
     ensures { λ r. ⌜ r ≡ statedFault (now (book .entry)) ⌝ }
 {
-    if let Verdict::Refused(number, place) = lengths(book) {
-        return Verdict::Refused(number, place);
-    }
     if let Verdict::Refused(number, place) = blocks_fault(book) {
         return Verdict::Refused(number, place);
     }
@@ -45,6 +44,9 @@ pub fn stated_fault(book: &[u8]) -> Verdict
 pub fn verdict(book: &[u8]) -> Verdict
     ensures { λ r. ⌜ r ≡ firstFault (now (book .entry)) ⌝ }
 {
+    if let Verdict::Refused(number, place) = lengths(book) {
+        return Verdict::Refused(number, place);
+    }
     if let Verdict::Refused(number, place) = stated_fault(book) {
         return Verdict::Refused(number, place);
     }

@@ -125,6 +125,13 @@ outcome-cleared b cleared committed p n c cleared′ committed′ e f g s =
           own .committed-holds ∙ ap (λ w. bufferBy w committed (filled (rowCommitted b (bookParameters b)) (offerCount b) committed)) g;
     }
 
+-- where what comes before the rows is refused, the answer with no buffers is that refusal
+pub answer-stated : (b : List ℕ) (number place : ℕ) → statedFault b ≡ Refused number place
+    → Answer·Refused number place ≡ answerOf b
+answer-stated b number place e =
+    sym (ap (λ w. answerBy w (clearingOf b (bookParameters b)))
+    (first-stated b ∙ andThen-refused (statedFault b) _ number place e))
+
 -- the answer into buffers of 600 entries is the answer with none
 pub outcome-answer : (b cleared committed : List ℕ) (a : Answer) (cleared′ committed′ : List ℕ)
     → 600 ≤ length cleared → 600 ≤ length committed → Outcome b cleared committed a cleared′ committed′ → a ≡ answerOf b

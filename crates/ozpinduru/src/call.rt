@@ -4,12 +4,14 @@ use block::SIZE;
 use book::and_then;
 use book::rows::read_rows;
 use book::stated_fault;
+use layout::form::lengths;
 use layout::reader::offer_count;
 use sale::payment::clearing;
 use values::Verdict;
 use values::head::parameters_in;
 ghost use mathlib.Core.Path.{_≡_};
 ghost use Rattle.values.specs.declared.Verdict.the-variants.{Passed};
+ghost use Rattle.layout.specs.Form.{lengthFault};
 ghost use Rattle.book.specs.Faults.{statedFault};
 ghost use Rattle.ozpinduru.specs.Answer.{Outcome, answerOf, bufferFault};
 
@@ -63,9 +65,9 @@ fn clear_stated(book: &[u8], cleared: &mut [u32], committed: &mut [u32]) -> Answ
     ))
 }
 
-// Clears a book. On a clearing the two buffers receive each row's cleared and committed tenths, and entries past the last
-// row are not touched; on a refusal both hold what they held.
-pub fn clear(book: &[u8], cleared: &mut [u32], committed: &mut [u32]) -> Answer
+// Clears a book whose length holds.
+fn clear_measured(book: &[u8], cleared: &mut [u32], committed: &mut [u32]) -> Answer
+    requires { ⌜ lengthFault (now book) ≡ Passed ⌝ }
     ensures { λ r. ⌜ Outcome (now (book .entry)) (now (cleared .entry)) (now (committed .entry)) r (now (cleared .exit)) (now (committed .exit)) ⌝ }
 {
     if let Verdict::Refused(number, place) = stated_fault(book) {
@@ -74,11 +76,25 @@ pub fn clear(book: &[u8], cleared: &mut [u32], committed: &mut [u32]) -> Answer
     clear_stated(book, cleared, committed)
 }
 
+// Clears a book. On a clearing the two buffers receive each row's cleared and committed tenths, and entries past the last
+// row are not touched; on a refusal both hold what they held. A wrong length is told before any other work.
+pub fn clear(book: &[u8], cleared: &mut [u32], committed: &mut [u32]) -> Answer
+    ensures { λ r. ⌜ Outcome (now (book .entry)) (now (cleared .entry)) (now (committed .entry)) r (now (cleared .exit)) (now (committed .exit)) ⌝ }
+{
+    if let Verdict::Refused(number, place) = lengths(book) {
+        return Answer::Refused(number, place);
+    }
+    clear_measured(book, cleared, committed)
+}
+
 // What a book clears, with no result buffers: the answer that `clear` gives where its buffers are long enough.
 pub fn answer(book: &[u8]) -> Answer
     ensures { λ r. ⌜ r ≡ answerOf (now (book .entry)) ⌝ }
 {
+    if let Verdict::Refused(number, place) = lengths(book) {
+        return Answer::Refused(number, place);
+    }
     let mut cleared = [0u32; 600];
     let mut committed = [0u32; 600];
-    clear(book, &mut cleared, &mut committed)
+    clear_measured(book, &mut cleared, &mut committed)
 }

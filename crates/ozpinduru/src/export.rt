@@ -2,6 +2,7 @@
 //
 // No kind is 0, so that a struct of zeros is no answer: 1 says that what was asked for is there, 2 that there is none, 3 that
 // the book or the parameters are refused. A field that has no value holds all ones.
+use crate::call::answer;
 use crate::call::clear;
 use crate::plain;
 use crate::plotted;
@@ -18,7 +19,8 @@ use values::Verdict;
 use values::head::Parameters;
 use values::place::offer_in;
 ghost use mathlib.Core.Path.{_≡_};
-ghost use Rattle.ozpinduru.specs.Export.{Returned, exportedRow, exportedMakeWhole};
+ghost use Rattle.ozpinduru.specs.Answer.{answerOf};
+ghost use Rattle.ozpinduru.specs.Export.{Returned, exported, exportedRow, exportedMakeWhole};
 ghost use Rattle.ozpinduru.specs.Plotted.{allGiven, exportedCurve, exportedPrice};
 
 // What a call answers. Quantities are tenths of a megawatt, the price is in cents per MW-day, amounts are mills.
@@ -77,6 +79,14 @@ pub extern "C" fn ozp_clear(book: &[u8], cleared: &mut [u32], committed: &mut [u
     ensures { λ r. ⌜ Returned (now (book .entry)) (now (cleared .entry)) (now (committed .entry)) r (now (cleared .exit)) (now (committed .exit)) ⌝ }
 {
     plain::answer(clear(book, cleared, committed))
+}
+
+// What a book clears, with no result buffers.
+#[no_mangle]
+pub extern "C" fn ozp_quote(book: &[u8]) -> OzpAnswer
+    ensures { λ r. ⌜ r ≡ exported (answerOf (now (book .entry))) ⌝ }
+{
+    plain::answer(answer(book))
 }
 
 // The values of a row: 2, and no values, for a row that isn't there or a book refused by 1 to 3.

@@ -1,5 +1,4 @@
--- `stated_fault` is the first fault before the rows: the blocks are tested only where the length passed, and the parameters
--- only where both did.
+-- `stated_fault` is the first fault before the rows: the parameters are tested only where the blocks passed.
 -- Assumes nothing.
 use mathlib.Core.Path.{_≡_, sym, ap, ap₂, _∙_}
 use native.Mathlib.Omega.{arith}
@@ -8,49 +7,32 @@ use Rattle.values.specs.Refusals.{andThen}
 use Rattle.values.specs.declared.Verdict.the-variants.{Passed}
 use Rattle.limits.specs.Parameters.{missingFault, rangeFault}
 use Rattle.layout.specs.Blocks.{blockOf}
-use Rattle.layout.specs.Form.{lengthFault, formFault}
+use Rattle.layout.specs.Form.{formFault}
 use Rattle.layout.specs.Read.{bookParameters}
 use Rattle.layout.proofs.Passing.{form-passed-length}
-use Rattle.book.proofs.Stages.{form-length, form-blocks, stated-form-refused, stated-formed}
+use Rattle.book.proofs.Stages.{form-blocks, stated-form-refused, stated-formed}
 use Rattle.book.proofs.stated_fault.Statement.{statement}
 use Rattle.book.proofs.stated_fault.Tie as tie
 
-lengths-requires : tie.Need-lengths-requires
-lengths-requires c κs = search needs
+blocks-fault-requires : tie.Need-blocks-fault-requires
+blocks-fault-requires c κs = search needs
 
 enum-known-number : tie.Need-enum-known-number
 enum-known-number c = search needs
 
 returns : tie.Need-returns
 returns c =
-    sym (stated-form-refused _ (form-length _ (sym (c .before .before .before .lengths .ensures) ∙ c .before .number .given .1)))
+    let tested = c .before .before .before in
+    sym (stated-form-refused _ (form-blocks _ (tested .before .before .pre) ∙ sym (tested .blocks-fault .ensures) ∙ c .before .number .given .1))
 
 enum-told : tie.Need-enum-told
 enum-told c = search needs
 
--- past the first test the length passed
-measured : (c : tie.After-enum-told) → lengthFault (c .before .before .before .before .args .book .now) ≡ Passed
-measured c = sym (c .before .before .lengths .ensures) ∙ c .enum-told .given .1
-
-blocks-fault-requires : tie.Need-blocks-fault-requires
-blocks-fault-requires c κs = measured c
-
-enum-known-number-2 : tie.Need-enum-known-number-2
-enum-known-number-2 c = search needs
-
-returns-2 : tie.Need-returns-2
-returns-2 c =
-    let tested = c .before .before .before in
-    sym (stated-form-refused _ (form-blocks _ (measured (tested .before)) ∙ sym (tested .blocks-fault .ensures) ∙ c .before .number2 .given .1))
-
-enum-told-2 : tie.Need-enum-told-2
-enum-told-2 c = search needs
-
--- past the second the form did
-formed : (c : tie.After-enum-told2) → formFault (c .before .before .before .before .before .before .before .args .book .now) ≡ Passed
+-- past the test the form passed
+formed : (c : tie.After-enum-told) → formFault (c .before .before .before .before .args .book .now) ≡ Passed
 formed c =
     let tested = c .before .before in
-    form-blocks _ (measured (tested .before)) ∙ sym (tested .blocks-fault .ensures) ∙ c .enum-told2 .given .1
+    form-blocks _ (tested .before .before .pre) ∙ sym (tested .blocks-fault .ensures) ∙ c .enum-told .given .1
 
 sub-head : tie.Need-sub-head
 sub-head c = search needs
@@ -75,29 +57,25 @@ and-then-requires c κs = search needs
 
 -- what the calls ensure, of the book's parameters
 parameters-told : (c : tie.After-and-then) →
-    let p = bookParameters (c .before .before .before .before .before .before .before .before .before .before .before .before .args .book .now) in
+    let p = bookParameters (c .before .before .before .before .before .before .before .before .before .args .book .now) in
     c .and-then .result ≡ andThen (missingFault p) (rangeFault p)
 unfolding bookParameters blockOf
 parameters-told c =
     let range = c .before .parameter-fault .ensures ∙ ap rangeFault (c .before .before .parameters-in .ensures) in
     c .and-then .ensures ∙ ap₂ andThen (c .before .before .before .missing-in .ensures) range
 
-returns-3 : tie.Need-returns-3
-returns-3 c =
+returns-2 : tie.Need-returns-2
+returns-2 c =
     parameters-told c ∙ sym (stated-formed _ (formed (c .before .before .before .before .before)))
 
 pub stated-fault-spec : {M : Type 1} → statement M
 stated-fault-spec =
     tie.close
     (tie.spec
-    lengths-requires
+    blocks-fault-requires
     enum-known-number
     returns
     enum-told
-    blocks-fault-requires
-    enum-known-number-2
-    returns-2
-    enum-told-2
     sub-head
     part-head-start
     part-head-end
@@ -105,4 +83,4 @@ stated-fault-spec =
     parameters-in-requires
     parameter-fault-requires
     and-then-requires
-    returns-3)
+    returns-2)

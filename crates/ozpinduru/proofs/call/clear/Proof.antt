@@ -1,29 +1,30 @@
 -- `clear` answers every string of bytes.
 -- Assumes nothing.
-use mathlib.Core.Path.{_≡_, sym, _∙_}
+use mathlib.Core.Path.{_≡_, refl, sym, _∙_}
 use borrow.Author.Needs.{needs}
+use Rattle.book.proofs.Stages.{stated-length}
 use Rattle.ozpinduru.proofs.Calls.{fault-stated, outcome-refused}
 use Rattle.ozpinduru.proofs.call.clear.Statement.{statement}
 use Rattle.ozpinduru.proofs.call.clear.Tie as tie
 
-stated-fault-requires : tie.Need-stated-fault-requires
-stated-fault-requires c κs = search needs
+lengths-requires : tie.Need-lengths-requires
+lengths-requires c κs = search needs
 
 enum-known-number : tie.Need-enum-known-number
 enum-known-number c = search needs
 
 returns : tie.Need-returns
 returns c =
-    outcome-refused _ _ _ _ _
-    (fault-stated _ _ _ _ _ _ (c .before .before .before .stated-fault .ensures) (c .before .number .given .1))
+    let refused = sym (c .before .before .before .lengths .ensures) ∙ c .before .number .given .1 in
+    outcome-refused _ _ _ _ _ (fault-stated _ _ _ _ _ _ refl (stated-length _ refused))
 
 enum-told : tie.Need-enum-told
 enum-told c = search needs
 
-clear-stated-requires : tie.Need-clear-stated-requires
-clear-stated-requires c κs =
+clear-measured-requires : tie.Need-clear-measured-requires
+clear-measured-requires c κs =
     let told = c .before .before in
-    sym (told .before .before .stated-fault .ensures) ∙ told .enum-told .given .1
+    sym (told .before .before .lengths .ensures) ∙ told .enum-told .given .1
 
 same-length : tie.Need-same-length
 same-length c = search needs
@@ -38,11 +39,11 @@ pub clear-spec : {M : Type 1} → statement M
 clear-spec =
     tie.close
     (tie.spec
-    stated-fault-requires
+    lengths-requires
     enum-known-number
     returns
     enum-told
-    clear-stated-requires
+    clear-measured-requires
     same-length
     same-length-2
     returns-2)
