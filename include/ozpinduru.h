@@ -124,6 +124,9 @@ typedef struct {
 ozp_answer ozp_clear(const uint8_t *book, size_t book_bytes, uint32_t *cleared, size_t cleared_entries, uint32_t *committed,
                      size_t committed_entries);
 
+/* What a book clears, with no result buffers: the answer that ozp_clear gives where both are long enough. */
+ozp_answer ozp_quote(const uint8_t *book, size_t book_bytes);
+
 /* The values of a row: OZP_GIVEN, or OZP_NONE where the book has no such row or is refused by 1 to 3. The values are those
  * that the bytes hold: a book that 4 to 8 refuse hands back its rows too, in range or not. */
 ozp_row_values ozp_row(const uint8_t *book, size_t book_bytes, size_t row);

@@ -22,8 +22,10 @@ def _load() -> ctypes.CDLL:
     word, size, book, buffer = ctypes.c_uint32, ctypes.c_size_t, ctypes.c_char_p, ctypes.POINTER(ctypes.c_uint32)
     try:
         c = ctypes.CDLL(str(next(filter(pathlib.Path.is_file, places), places[-1])))
+        answer = struct("make_whole daily year", "kind total price number place")
         for function, result, arguments in [
-            (c.ozp_clear, struct("make_whole daily year", "kind total price number place"), [book, size] + [buffer, size] * 2),
+            (c.ozp_clear, answer, [book, size] + [buffer, size] * 2),
+            (c.ozp_quote, answer, [book, size]),
             (c.ozp_row, struct("stamp", "kind resource seller quantity price_kind price block_kind block"), [book, size, size]),
             (c.ozp_curve, struct("", "kind p1 p2 p3 q1 q2 q3 number place"), [word] * 5),
             (c.ozp_price_at, struct("", "kind price number place"), [word] * 6),
@@ -76,13 +78,18 @@ class Row:
 
 
 @dataclass(frozen=True)
-class Clearing:
-    """The answer for an accepted book. `price` is None when nothing cleared; a price of 0 is a price."""
+class Quote:
+    """What an accepted book clears in all. `price` is None when nothing cleared; a price of 0 is a price."""
     total: int
     price: Optional[int]
     make_whole: int
     daily: int
     year: int
+
+
+@dataclass(frozen=True)
+class Clearing(Quote):
+    """The same with what each row gets."""
     rows: list[Row]
 
     def make_whole_of(self, row: int) -> Optional[int]:
@@ -137,6 +144,13 @@ def clear(book: bytes) -> Clearing:
     # Entries past the last row are not touched, and no row clears as much as the number they hold.
     rows = [Row(x, y, _library.ozp_make_whole(a.kind, a.price, x, y)) for x, y in zip(cleared, committed) if x != unset]
     return Clearing(a.total, price, a.make_whole, a.daily, a.year, rows)
+
+
+def quote(book: bytes) -> Quote:
+    """What a book clears, without the amounts by row, or raises Refusal."""
+    data = bytes(memoryview(book))
+    a = _library.ozp_quote(data, len(data))
+    return Quote(a.total, _held(a, a.kind, a.price), a.make_whole, a.daily, a.year)
 
 
 def row(book: bytes, n: int) -> Optional[Offer]:

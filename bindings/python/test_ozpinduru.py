@@ -8,7 +8,7 @@ from concurrent.futures import ThreadPoolExecutor
 
 ROOT = pathlib.Path(__file__).resolve().parents[2]
 sys.path[:0] = [str(ROOT / "bindings" / "python"), str(ROOT / "tests")]
-from ozpinduru import Clearing, Curve, Fault, Offer, Refusal, Row, clear, curve, price_at, row  # noqa: E402
+from ozpinduru import Clearing, Curve, Fault, Offer, Quote, Refusal, Row, clear, curve, price_at, quote, row  # noqa: E402
 from write_book import REFERENCE, THREE, book, many, offer  # noqa: E402
 
 ANSWER = Clearing(10_000, 37_500, 637_500, 375_637_500, 137_107_687_500, [Row(9_900, 9_900, 0), Row(67, 67, 0), Row(33, 50, 637_500)])
@@ -18,6 +18,8 @@ class Calls(unittest.TestCase):
     def test_reference(self):
         data = (ROOT / "examples" / "reference.book").read_bytes()
         self.assertEqual([clear(data), clear(bytearray(data))], [ANSWER] * 2)
+        self.assertEqual(quote(data), Quote(10_000, 37_500, 637_500, 375_637_500, 137_107_687_500))
+        self.assertRaisesRegex(Refusal, "refused 1 at place 0", quote, data[1:])
         self.assertEqual([ANSWER.make_whole_of(n) for n in range(4)], [0, 0, 637_500, None])
         self.assertEqual([row(data, 2), row(data, 0).block], [Offer(13, 7, 37_500, 100, 50, 3), None])
 

@@ -71,8 +71,9 @@ void reference(const char *folder)
     static struct buffers out;
     const char *name = "reference.book";
     size_t bytes = read_book(folder, name, book), row;
-    ozp_answer a = clear(book, bytes, &out, ENTRIES, ENTRIES);
+    ozp_answer a = clear(book, bytes, &out, ENTRIES, ENTRIES), q = ozp_quote(book, bytes);
     ozp_row_values r;
+    expect(q.kind == a.kind && q.total == a.total && q.price == a.price && q.year == a.year, name, "quote");
     expect(a.kind == OZP_GIVEN && a.total == 10000 && a.price == 37500, name, "total and price");
     expect(a.make_whole == 637500 && a.daily == 375637500 && a.year == 137107687500u, name, "amounts");
     for (row = 0; row < LENGTH(cleared); row++) {
@@ -102,5 +103,6 @@ void nothing(const char *folder)
     expect(a.make_whole == 0 && a.daily == 0 && a.year == 0, "no offers", "every amount is 0");
     a = ozp_clear(NULL, 0, NULL, 0, NULL, 0);
     expect(a.kind == OZP_REFUSED && a.number == OZP_WRONG_LENGTH && a.place == 0, "no bytes", "refused 1 0");
+    expect(ozp_quote(NULL, 0).number == OZP_WRONG_LENGTH, "no bytes", "no quote");
     expect_no_row(ozp_row(NULL, 0, 0), "no bytes");
 }

@@ -77,17 +77,29 @@ pub struct Point {
 
 /// Clears a book. The two buffers receive each row's cleared and committed tenths; entries past the last row are not touched,
 /// and a refusal leaves both buffers as they were.
+#[inline]
 pub fn clear(book: &[u8], cleared: &mut [u32], committed: &mut [u32]) -> Result<Clearing, Refusal> {
     // SAFETY: the call reads the book and writes the buffers, each within the length that is handed over with it, and keeps
     // none of the pointers. That is part of what is proved of it.
-    let answer = unsafe {
+    answered(unsafe {
         raw::ozp_clear(book.as_ptr(), book.len(), cleared.as_mut_ptr(), cleared.len(), committed.as_mut_ptr(), committed.len())
-    };
+    })
+}
+
+/// What a book clears, without the amounts by row.
+#[inline]
+pub fn quote(book: &[u8]) -> Result<Clearing, Refusal> {
+    // SAFETY: the call reads the book within its length and keeps no pointer.
+    answered(unsafe { raw::ozp_quote(book.as_ptr(), book.len()) })
+}
+
+#[inline]
+fn answered(answer: raw::Answer) -> Result<Clearing, Refusal> {
     let price = match answer.kind {
         raw::THERE => Some(answer.price),
         raw::NONE => None,
         raw::REFUSED => return Err(Refusal::of(answer.number, answer.place)),
-        kind => unknown("ozp_clear", kind),
+        kind => unknown("a book", kind),
     };
     Ok(Clearing { total: answer.total, price, make_whole: answer.make_whole, daily: answer.daily, year: answer.year })
 }

@@ -65,6 +65,7 @@ extern "C" {
         committed: *mut u32,
         committed_len: usize,
     ) -> Answer;
+    pub fn ozp_quote(book: *const u8, book_len: usize) -> Answer;
     pub fn ozp_row(book: *const u8, book_len: usize, row: usize) -> Row;
     pub fn ozp_curve(year: u32, cost: u32, offset: u32, outage: u32, requirement: u32) -> Curve;
     pub fn ozp_price_at(year: u32, cost: u32, offset: u32, outage: u32, requirement: u32, k: u32) -> Price;

@@ -72,6 +72,7 @@ impl Refusal {
     }
 
     /// The refusal of a number and a place, as the library answers them.
+    #[inline]
     pub(crate) fn of(number: u32, place: u32) -> Refusal {
         match number {
             1 => Refusal::WrongLength,

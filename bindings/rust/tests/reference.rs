@@ -1,6 +1,6 @@
 //! The outline's reference book through the C interface.
 
-use ozpinduru::{clear, curve, price_at, row, Buffer, Clearing, Curve, Field, Offer, Parameters, Point, Refusal};
+use ozpinduru::{clear, curve, price_at, quote, row, Buffer, Clearing, Curve, Field, Offer, Parameters, Point, Refusal};
 use std::fs;
 use std::path::Path;
 
@@ -21,6 +21,7 @@ fn clears_as_the_outline_says() {
     let (make_whole, daily, year) = (637_500, 375_637_500, 137_107_687_500);
     assert_eq!(clearing, Clearing { total: 10_000, price: Some(37_500), make_whole, daily, year });
     assert_eq!((cleared, committed), ([9_900, 67, 33, 7, 7], [9_900, 67, 50, 8]));
+    assert_eq!(quote(&book()), Ok(clearing));
     let by_row: Vec<u64> = (0..3).map(|row| clearing.make_whole(cleared[row], committed[row])).collect();
     assert_eq!(by_row, [0, 0, 637_500]);
 }

@@ -57,6 +57,9 @@ fn cleared(call: &Call, book: &[u8], past: usize, outcome: &Outcome) -> Result<(
     let held = || (held(call.cleared_len + past, 1), held(call.committed_len + past, 2));
     let (mut cleared, mut committed) = held();
     let answer = ozpinduru::clear(book, &mut cleared[..call.cleared_len], &mut committed[..call.committed_len]);
+    if !matches!(answer, Err(Refusal::ShortBuffer(_))) {
+        same("the quote", ozpinduru::quote(book), answer)?;
+    }
     let (mut cleared_due, mut committed_due) = held();
     match outcome {
         Outcome::Refused { number, place } => {
