@@ -26,7 +26,7 @@ fn put_short(out: &mut [u8], at: usize, number: u32, end: u8) -> usize
 }
 
 // Puts a word, a number and one byte behind it.
-pub fn put_word(out: &mut [u8], at: usize, word: &[u8], number: u64, end: u8) -> usize
+pub(crate) fn put_word(out: &mut [u8], at: usize, word: &[u8], number: u64, end: u8) -> usize
     requires { ⌜ at + length (now word) + 21 ≤ length (now out) ⌝ }
     ensures { λ r. ⌜ Fitted (now (out .entry)) at (wordText (now (word .entry)) number end) (now (out .exit)) r × (r ≤ at + length (now (word .entry)) + 21) ⌝ }
 {
@@ -35,7 +35,7 @@ pub fn put_word(out: &mut [u8], at: usize, word: &[u8], number: u64, end: u8) ->
 }
 
 // Puts the line of the price, and of no price.
-pub fn put_price(out: &mut [u8], at: usize, price: ClearingPrice) -> usize
+pub(crate) fn put_price(out: &mut [u8], at: usize, price: ClearingPrice) -> usize
     requires { ⌜ at + 27 ≤ length (now out) ⌝ }
     ensures { λ r. ⌜ Fitted (now (out .entry)) at (priceText (quoted price)) (now (out .exit)) r × (r ≤ at + 27) ⌝ }
 {
@@ -46,7 +46,7 @@ pub fn put_price(out: &mut [u8], at: usize, price: ClearingPrice) -> usize
 }
 
 // Puts the line of a refusal.
-pub fn put_refusal(out: &mut [u8], at: usize, number: u32, place: u32) -> usize
+pub(crate) fn put_refusal(out: &mut [u8], at: usize, number: u32, place: u32) -> usize
     requires { ⌜ at + 50 ≤ length (now out) ⌝ }
     ensures { λ r. ⌜ Fitted (now (out .entry)) at (refusalText number place) (now (out .exit)) r ⌝ }
 {
@@ -55,7 +55,7 @@ pub fn put_refusal(out: &mut [u8], at: usize, number: u32, place: u32) -> usize
 }
 
 // Puts the line of a row: its resource, what it clears, what it commits and its make-whole.
-pub fn put_row(
+pub(crate) fn put_row(
     out: &mut [u8],
     at: usize,
     resource: u32,

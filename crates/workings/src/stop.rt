@@ -59,7 +59,7 @@ fn next_at(c: Curve, prices: &[u32], quantities: &[u32], n: usize, x: u32) -> Ne
 }
 
 // Where the cleared total of n rows stops on a curve.
-pub fn stop_at(c: Curve, prices: &[u32], quantities: &[u32], n: usize) -> Stop
+pub(crate) fn stop_at(c: Curve, prices: &[u32], quantities: &[u32], n: usize) -> Stop
     requires { ⌜ Shaped c × Rows (now prices) (now quantities) n ⌝ }
     ensures { λ r. ⌜ r ≡ stopAt c (listed (now (prices .entry)) (now (quantities .entry)) n) ⌝ }
 {
