@@ -2,11 +2,12 @@
 //
 // Each function puts a text at a place, all of it where it fits from there to the end and else nothing, and answers the place
 // behind it. No place that is answered lies past the end, so a caller goes on from it, and lends `&out[..at]`, with no test.
+mod form;
 mod number;
 
+pub use form::put_form;
 pub use number::put_decimal;
 pub use number::put_number;
-pub use number::put_padded;
 ghost use mathlib.Core.Path.{_≡_};
 ghost use Prim.Native.Nat.{_-_};
 ghost use mathlib.Core.List.{[], _∷_};

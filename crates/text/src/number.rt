@@ -14,13 +14,6 @@ pub fn put_number(out: &mut [u8], at: usize, n: u64) -> usize
     put_filled(out, at, n, 0, b' ')
 }
 
-// Puts a number's digits with spaces in front up to `width` bytes.
-pub fn put_padded(out: &mut [u8], at: usize, n: u64, width: usize) -> usize
-    ensures { λ r. ⌜ Written (now (out .entry)) at (rightText width 32 (numberText n)) (now (out .exit)) r ⌝ }
-{
-    put_filled(out, at, n, width, b' ')
-}
-
 // Puts n parts, of which 10 to the power of `places` make one whole, with a point and `places` digits behind it. More than 19
 // places count as 19.
 pub fn put_decimal(out: &mut [u8], at: usize, n: u64, places: usize) -> usize
@@ -58,7 +51,7 @@ fn power(places: usize) -> u64
     unit
 }
 
-fn least(a: usize, b: usize) -> usize
+pub(crate) fn least(a: usize, b: usize) -> usize
     ensures { λ r. ⌜ (r ≡ min a b) × (r ≤ b) ⌝ }
 {
     if a < b { a } else { b }

@@ -1,0 +1,4 @@
+pub mod Offered
+pub mod Stops
+pub mod Shared
+pub mod Worked

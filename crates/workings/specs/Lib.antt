@@ -1,0 +1,4 @@
+pub mod Read
+pub mod Stop
+pub mod Share
+pub mod Works

@@ -1,0 +1,9 @@
+// What an analyst works by hand on the way to a clearing: what a book states, where its total stops on the curve and why,
+// and each row's share of its price level.
+//
+// Every public function takes a book of bytes and looks at its faults first, so that it asks nothing of its caller. It is the
+// work of one page for one reader: nothing is kept from call to call.
+pub mod read;
+pub mod share;
+pub mod stop;
+pub mod works;

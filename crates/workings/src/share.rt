@@ -1,0 +1,83 @@
+// A row's share of its price level.
+use market::margin::supply_below;
+use market::supply::supply_at;
+ghost use mathlib.Core.Path.{_≡_};
+ghost use Prim.Native.Nat.{ℕ, _-_, _<_, min};
+ghost use lib.ListN.{getD};
+ghost use Rattle.auction.specs.Offers.{levelSum};
+ghost use Rattle.auction.specs.Shares.{levelAmount};
+ghost use Rattle.market.specs.Rows.{Rows, listed};
+ghost use Rattle.workings.specs.Share.{LevelAt, shareAt, rowShareAt};
+
+// What a row's level receives and offers in all, its exact part of that rounded down, and what rounding down leaves: the
+// part is (quantity times amount) over sum, and the remainder is over sum too.
+pub struct Share {
+    pub amount: u32,
+    pub sum: u32,
+    pub down: u64,
+    pub remainder: u64,
+}
+
+pub enum RowShare {
+    Shares(Share),
+    NoRow,
+}
+
+// What a price level receives of a total, and what is offered at it.
+pub struct Received {
+    pub amount: u32,
+    pub sum: u32,
+}
+
+// By how much a is over b: 0 where it isn't.
+fn less(a: u32, b: u32) -> u32
+    ensures { λ r. ⌜ r ≡ a - b ⌝ }
+{
+    if a < b { 0 } else { a - b }
+}
+
+fn least(a: u32, b: u32) -> u32
+    ensures { λ r. ⌜ r ≡ min a b ⌝ }
+{
+    if a < b { a } else { b }
+}
+
+// What the level at a price receives of x, and what is offered at it.
+fn level_at(prices: &[u32], quantities: &[u32], n: usize, x: u32, price: u32) -> Received
+    requires { ⌜ Rows (now prices) (now quantities) n ⌝ }
+    ensures { λ r. ⌜ LevelAt (listed (now (prices .entry)) (now (quantities .entry)) n) x price r ⌝ }
+{
+    let below = supply_below(prices, quantities, n, price);
+    let sum = supply_at(prices, quantities, n, price) - below;
+    Received {
+        amount: least(less(x, below), sum),
+        sum,
+    }
+}
+
+// The share of a row that is there.
+fn share_at(prices: &[u32], quantities: &[u32], n: usize, x: u32, row: usize) -> Share
+    requires { ⌜ Rows (now prices) (now quantities) n × (row < n) × (0 < getD (now quantities) row 0) ⌝ }
+    ensures { λ r. ⌜ r ≡ shareAt (listed (now (prices .entry)) (now (quantities .entry)) n) x row ⌝ }
+{
+    let level = level_at(prices, quantities, n, x, prices[row]);
+    let exact = quantities[row] as u64 * level.amount as u64;
+    Share {
+        amount: level.amount,
+        sum: level.sum,
+        down: exact / level.sum as u64,
+        remainder: exact % level.sum as u64,
+    }
+}
+
+// The share of a row, or that it isn't there.
+pub fn row_share_at(prices: &[u32], quantities: &[u32], n: usize, x: u32, row: usize) -> RowShare
+    requires { ⌜ Rows (now prices) (now quantities) n × ((i : ℕ) → i < n → 0 < getD (now quantities) i 0) ⌝ }
+    ensures { λ r. ⌜ r ≡ rowShareAt (listed (now (prices .entry)) (now (quantities .entry)) n) x row ⌝ }
+{
+    if row < n {
+        RowShare::Shares(share_at(prices, quantities, n, x, row))
+    } else {
+        RowShare::NoRow
+    }
+}

@@ -1,0 +1,63 @@
+#!/usr/bin/env python3
+"""Makes the books that the program `explain` is run on.
+
+    tests/explain/make.py            writes crates/explain/stdin and tests/explain/*.book, with what is expected of each
+    tests/explain/make.py --check    says whether they are what it would write
+
+What is expected comes from page.py: crates/explain/stdout, and NAME.txt beside each book.
+"""
+import pathlib
+import sys
+
+HERE = pathlib.Path(__file__).resolve().parent
+sys.path[:0] = [str(HERE), str(HERE.parent)]
+sys.dont_write_bytecode = True
+from make_books import book, changed, damaged, offer  # noqa: E402
+from page import page  # noqa: E402
+
+# Two units at zero, and two that tie at the curve price: a spare tenth, and a minimum block of which a part cleared.
+FOUR = [
+    offer(21, 0, 6_000, stamp=4),
+    offer(22, 0, 3_900, stamp=3),
+    offer(23, 37_500, 200, stamp=2),
+    offer(24, 37_500, 100, block=50, stamp=1),
+]
+NO_PRICE = [offer(11, 0, 100), offer(12, 500, 100), offer(13, 500, 100), offer(41, None, 100)]
+
+
+def books():
+    yield HERE.parent.parent / "crates" / "explain" / "stdin", book(FOUR)
+    # a price that is missing, which is not one of zero
+    yield HERE / "no-price-in-row-3.book", book(NO_PRICE)
+    # more at zero than the curve buys: a real price of zero, and blocks that are paid nothing for it
+    yield HERE / "price-zero.book", book([offer(31, 0, 10_000, stamp=1), offer(32, 0, 1_000, block=1_000, stamp=2)])
+    # nothing is cheap enough: no price
+    yield HERE / "no-price.book", book([offer(51, 50_001, 100, block=100)])
+    # an offer that does not clear sets the price
+    yield HERE / "offer-sets-the-price.book", book([offer(61, 10_000, 10_000), offer(62, 37_450, 500)])
+    # the curve sets it where no price has more
+    yield HERE / "curve-sets-the-price.book", book([offer(71, 0, 9_000)], offset=0, outage=0)
+    # the other refusals
+    yield HERE / "refused-1.book", book([])[:-1]
+    yield HERE / "refused-2.book", damaged(book(FOUR), [(512 + 40, b"\1")])
+    yield HERE / "refused-3.book", changed(FOUR, [(1, 8, b"\1")])
+    yield HERE / "refused-4.book", book(FOUR, offset=None)
+    yield HERE / "refused-5.book", book(FOUR, offset=146_001)
+    yield HERE / "refused-7.book", book(FOUR[:1] + [offer(25, 100, 40, block=41)])
+    yield HERE / "refused-8.book", book(FOUR + [offer(22, 0, 5)])
+
+
+def main():
+    made = dict(books())
+    made |= {path.with_suffix(".txt") if path.suffix else path.with_name("stdout"): page(data).encode() for path, data in made.items()}
+    if sys.argv[1:] == ["--check"]:
+        wrong = [path.name for path, data in made.items() if not path.is_file() or path.read_bytes() != data]
+        for name in wrong:
+            print(f"not what tests/explain/make.py makes: {name}")
+        sys.exit(1 if wrong else 0)
+    for path, data in made.items():
+        path.write_bytes(data)
+
+
+if __name__ == "__main__":
+    main()
