@@ -1,0 +1,48 @@
+// What a book states: its parameters, each given or missing.
+use crate::say;
+use values::Value;
+use values::head::Parameters;
+use values::number_held;
+
+// The words for a value: 0 where it is missing, 1 where it is given as zero, 2 for any other number.
+fn words_for(value: Value) -> u64 {
+    match value {
+        Value::Given(number) => { if number == 0 { 1 } else { 2 } }
+        Value::Missing => 0,
+    }
+}
+
+// Says the parameters and the number of offers.
+pub fn say_stated(p: Parameters, offers: u32) {
+    let cost = p.cost;
+    let offset = p.offset;
+    let outage = p.outage;
+    let requirement = p.requirement;
+    say(
+        b"The book states
+  delivery year          #
+  C, cost of new entry   [missing, which is not zero\
+    |0 dollars per MW-year, entered as zero|# dollars per MW-year]
+  E, revenue offset      [missing, which is not zero\
+    |0 dollars per MW-year, entered as zero|# dollars per MW-year]
+  F, outage rate EFORd   [missing, which is not zero\
+    |0.00 percent (0 hundredths), entered as zero|$ percent (# hundredths)]
+  R, requirement         [missing, which is not zero\
+    |0.0 MW (0 tenths), entered as zero|~ MW (# tenths)]
+  offers                 #
+
+",
+        &[
+            p.year as u64,
+            words_for(cost),
+            number_held(cost) as u64,
+            words_for(offset),
+            number_held(offset) as u64,
+            words_for(outage),
+            number_held(outage) as u64,
+            words_for(requirement),
+            number_held(requirement) as u64,
+            offers as u64,
+        ],
+    );
+}
