@@ -1,26 +1,62 @@
 #!/usr/bin/env python3
-"""Compares what the program `explain` writes with page.py, on every book that ships with the project.
+"""Compares what the program `explain` writes with page.py on every book that ships with the project, and on books with the
+largest numbers; and looks that no line has more than 80 letters.
 
-    tests/explain/compare.py PROGRAM    says which pages differ
+    tests/explain/compare.py PROGRAM
 """
 import pathlib
 import subprocess
 import sys
 
 HERE = pathlib.Path(__file__).resolve().parent
-CRATES = HERE.parent.parent / "crates"
+sys.path[:0] = [str(HERE), str(HERE.parent)]
 sys.dont_write_bytecode = True
+from write_book import book, offer  # noqa: E402
 from page import page  # noqa: E402
+
+MOST = 2**32 - 1
+LATEST = 2**64 - 1
+
+
+def largest_books():
+    high = dict(cost=1_000_000, offset=0, outage=5_000, requirement=2_000_000)
+    tied = [offer(MOST - row, 958_904, 200_000 - row % 2, block=199_999, stamp=LATEST - row) for row in range(600)]
+    yield "600 tied offers", book(tied, **high)
+    apart = [offer(MOST - row, 1_000_000 - 1_000 * (row % 600), 200_000, stamp=LATEST) for row in range(600)]
+    yield "600 levels", book(apart, **high)
+    yield "offers at zero", book([offer(row + 1, 0, 200_000, block=200_000) for row in range(600)], **high)
+    yield "a value past every range", book([offer(MOST, MOST, MOST, block=MOST, seller=MOST)])
+    yield "parameters past every range", book([], year=65_535, cost=MOST, offset=MOST, outage=MOST, requirement=MOST)
+    yield "parameters of zero", book([], cost=0, offset=0, outage=0, requirement=0)
+    yield "no parameter", book([], cost=None, offset=None, outage=None, requirement=None)
+    yield "the last row again", book(tied[:-1] + [offer(MOST - 598, 0, 1)], **high)
+    yield "the last row with no price", book(tied[:-1] + [offer(MOST - 599, None, 1)], **high)
+    yield "more than is read", bytes(70_000)
+
+
+def shipped_books():
+    root = HERE.parent.parent
+    for path in sorted(root.glob("*/**/*.book")):
+        if "target" not in path.parts:
+            yield path.relative_to(root), path.read_bytes()
 
 
 def main():
-    differ = 0
-    for book in sorted(p for folder in (HERE, CRATES / "verdicts" / "data", CRATES / "clearings" / "data") for p in folder.glob("*.book")):
-        data = book.read_bytes()
-        if subprocess.run(sys.argv[1:], input=data, capture_output=True).stdout.decode() != page(data):
-            print(f"explain writes something else than tests/explain/page.py for {book.name}")
-            differ = 1
-    sys.exit(differ)
+    program = sys.argv[1]
+    failed = count = 0
+    for name, data in [*shipped_books(), *largest_books()]:
+        said = subprocess.run([program], input=data, capture_output=True, check=True).stdout.decode()
+        if said != page(data):
+            failed += 1
+            print(f"explain writes something else than page.py: {name}")
+        for line in said.split("\n"):
+            if len(line) > 80:
+                failed += 1
+                print(f"{name}: a line of {len(line)} letters: {line}")
+                break
+        count += 1
+    print(f"{count} books explained, {failed} wrong")
+    sys.exit(1 if failed else 0)
 
 
 if __name__ == "__main__":

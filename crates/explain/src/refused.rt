@@ -1,60 +1,11 @@
-// A refusal in the words of the table, with its place named.
-use crate::say::say;
-use values::Value;
-use values::number_held;
-use values::place::Offer;
+// A refused book.
+use page::refused::say_block;
+use page::refused::say_length;
+use page::refused::say_parameter;
+use page::refused::say_row;
+use page::refused::say_values;
 use workings::read::RowOffer;
 use workings::read::offer_of;
-
-// The most bytes that are read of a book.
-const READ: usize = 65536;
-
-// 1: the length. What fills all that is read may be longer.
-fn say_length(bytes: usize) {
-    say(
-        b"refused 1 at 0
-  the length is # bytes[| or more]
-  it has to be a multiple of 512, from 512 to 20992
-",
-        &[bytes as u64, (bytes >= READ) as u64],
-    );
-}
-
-// 2 and 3: the check and the layout of a block.
-fn say_block(number: u32, block: u32) {
-    say(
-        b"refused # at block #
-  [||the check of block # is wrong, so nothing of the book is read\
-    |letters, edition, block number, counts, unused marks or bytes of block #
-  differ from the layout, or a value marked absent is not zero]
-",
-        &[
-            number as u64,
-            block as u64,
-            number as u64,
-            block as u64,
-            block as u64,
-        ],
-    );
-}
-
-// 4 and 5: a parameter is missing, or out of range.
-fn say_parameter(number: u32, field: u32) {
-    say(
-        b"refused # at field #
-  [|the delivery year|C, the cost of new entry,|E, the revenue offset,|F, the outage rate,\
-    |R, the requirement,] is [missing; a missing value is not zero|out of range]
-  its range is [|2026 to 2099|1 to 1000000|0 to C|0.00 to 50.00 percent|100.0 to 200000.0 MW]
-",
-        &[
-            number as u64,
-            field as u64,
-            field as u64,
-            (number == 5) as u64,
-            field as u64,
-        ],
-    );
-}
 
 // The first row with a resource number; `row` where none stands before it.
 fn first_row(book: &[u8], row: usize, resource: u32) -> usize {
@@ -68,57 +19,8 @@ fn first_row(book: &[u8], row: usize, resource: u32) -> usize {
     row
 }
 
-// 6 and 8: a row has no price, or a resource number that stands in an earlier row; and the first line of 7.
-fn say_row(number: u32, row: u32, resource: u32, first: usize) {
-    say(
-        b"refused # at row #
-  row # (resource #) has [||||||no price; a missing price is not zero\
-    |a value out of range\
-    |a resource number of an earlier row: row #]
-",
-        &[
-            number as u64,
-            row as u64,
-            row as u64,
-            resource as u64,
-            number as u64,
-            first as u64,
-        ],
-    );
-}
-
-// 7: the values of a row, of which one or more are out of range.
-fn say_values(o: Offer) {
-    let price = o.price;
-    let block = o.block;
-    say(
-        b"    resource #, from 1
-    seller #, from 1
-    price $ (#), from 0.00 to 10000.00 (1000000)
-    quantity ~ MW (#), from 0.1 to 20000.0 MW (200000)
-    minimum block [not given|~ MW (#), from 0.1 MW (1) to the quantity]
-",
-        &[
-            o.resource as u64,
-            o.seller as u64,
-            number_held(price) as u64,
-            o.quantity as u64,
-            if_given(block),
-            number_held(block) as u64,
-        ],
-    );
-}
-
-// 1 where a value is given.
-fn if_given(value: Value) -> u64 {
-    match value {
-        Value::Given(_) => 1,
-        Value::Missing => 0,
-    }
-}
-
 // 6, 7 and 8: a row.
-fn say_row_refusal(book: &[u8], number: u32, row: u32) {
+fn explain_row(book: &[u8], number: u32, row: u32) {
     if let RowOffer::Offered(o) = offer_of(book, row as usize) {
         let first = first_row(book, row as usize, o.resource);
         say_row(number, row, o.resource, first);
@@ -128,12 +30,12 @@ fn say_row_refusal(book: &[u8], number: u32, row: u32) {
     }
 }
 
-// Says the refusal of a book.
-pub fn say_refusal(book: &[u8], number: u32, place: u32) {
+// A refusal, by its number.
+pub fn explain_refusal(book: &[u8], number: u32, place: u32) {
     match number {
         1 => say_length(book.len()),
         2 | 3 => say_block(number, place),
         4 | 5 => say_parameter(number, place),
-        _ => say_row_refusal(book, number, place),
+        _ => explain_row(book, number, place),
     }
 }

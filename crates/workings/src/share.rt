@@ -71,7 +71,13 @@ fn share_at(prices: &[u32], quantities: &[u32], n: usize, x: u32, row: usize) ->
 }
 
 // The share of a row, or that it isn't there.
-pub(crate) fn row_share_at(prices: &[u32], quantities: &[u32], n: usize, x: u32, row: usize) -> RowShare
+pub(crate) fn row_share_at(
+    prices: &[u32],
+    quantities: &[u32],
+    n: usize,
+    x: u32,
+    row: usize,
+) -> RowShare
     requires { ⌜ Rows (now prices) (now quantities) n × ((i : ℕ) → i < n → 0 < getD (now quantities) i 0) ⌝ }
     ensures { λ r. ⌜ r ≡ rowShareAt (listed (now (prices .entry)) (now (quantities .entry)) n) x row ⌝ }
 {

@@ -1,20 +1,13 @@
 // What a book states: its parameters, each given or missing.
-use crate::say::say;
+use crate::say;
 use values::Value;
 use values::head::Parameters;
+use values::number_held;
 
 // The words for a value: 0 where it is missing, 1 where it is given as zero, 2 for any other number.
 fn words_for(value: Value) -> u64 {
     match value {
         Value::Given(number) => { if number == 0 { 1 } else { 2 } }
-        Value::Missing => 0,
-    }
-}
-
-// The number of a value, of which nothing is shown where it is missing.
-fn shown(value: Value) -> u64 {
-    match value {
-        Value::Given(number) => number as u64,
         Value::Missing => 0,
     }
 }
@@ -28,23 +21,27 @@ pub fn say_stated(p: Parameters, offers: u32) {
     say(
         b"The book states
   delivery year          #
-  C, cost of new entry   [missing, which is not zero|0, entered as zero|# dollars per MW-year]
-  E, revenue offset      [missing, which is not zero|0, entered as zero|# dollars per MW-year]
-  F, outage rate EFORd   [missing, which is not zero|0, entered as zero|$ percent (# hundredths)]
-  R, requirement         [missing, which is not zero|0, entered as zero|~ MW (# tenths)]
+  C, cost of new entry   [missing, which is not zero\
+    |0 dollars per MW-year, entered as zero|# dollars per MW-year]
+  E, revenue offset      [missing, which is not zero\
+    |0 dollars per MW-year, entered as zero|# dollars per MW-year]
+  F, outage rate EFORd   [missing, which is not zero\
+    |0.00 percent (0 hundredths), entered as zero|$ percent (# hundredths)]
+  R, requirement         [missing, which is not zero\
+    |0.0 MW (0 tenths), entered as zero|~ MW (# tenths)]
   offers                 #
 
 ",
         &[
             p.year as u64,
             words_for(cost),
-            shown(cost),
+            number_held(cost) as u64,
             words_for(offset),
-            shown(offset),
+            number_held(offset) as u64,
             words_for(outage),
-            shown(outage),
+            number_held(outage) as u64,
             words_for(requirement),
-            shown(requirement),
+            number_held(requirement) as u64,
             offers as u64,
         ],
     );

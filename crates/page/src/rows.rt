@@ -1,59 +1,48 @@
-// The rows: each with its offer, its share of its price level, and what it clears, commits and is paid.
-use crate::say::say;
-use market::price::ClearingPrice;
-use settle::make_whole;
-use values::Value;
+// A row of an accepted book: its offer, its share of its price level, and what it clears, commits and is paid.
+use crate::if_given;
+use crate::say;
 use values::number_held;
 use values::place::Offer;
-use workings::share::Share;
 
 // Says a row's offer.
-fn say_offer(row: usize, o: Offer) {
+pub fn say_offer(row: usize, o: Offer) {
     let price = o.price;
+    let block = o.block;
     let cents = number_held(price);
     say(
-        b"row #, resource #: ~ MW (#) [offered at zero|at $ (#)]\n",
+        b"row #, resource #: ~ MW (#) [offered at zero|at $ (#)]
+  [flexible|minimum block ~ MW (#)], stamp #
+",
         &[
             row as u64,
             o.resource as u64,
             o.quantity as u64,
             (cents > 0) as u64,
             cents as u64,
+            if_given(block),
+            number_held(block) as u64,
+            o.stamp,
         ],
     );
 }
 
-// Says the minimum block, or that there is none, and the time stamp.
-fn say_terms(block: Value, stamp: u64) {
-    match block {
-        Value::Given(tenths) => {
-            say(
-                b"  minimum block ~ MW (#), stamp #\n",
-                &[tenths as u64, stamp],
-            );
-        }
-        Value::Missing => {
-            say(b"  flexible, stamp #\n", &[stamp]);
-        }
-    }
-}
-
 // What a row gets of its level: 0 nothing, 1 all of its offer, 2 a share.
-fn part(s: Share) -> u64 {
-    if s.amount == 0 {
+fn part(amount: u32, sum: u32) -> u64 {
+    if amount == 0 {
         0
-    } else if s.amount == s.sum {
+    } else if amount == sum {
         1
     } else {
         2
     }
 }
 
-// What a row with a share gets of the spare tenths: 1 none, 2 one. Of a row without one nothing is said.
-fn spare(s: Share, cleared: u32) -> u64 {
-    if part(s) < 2 {
+// What a row gets of the spare tenths, of its level's amount and sum and its share rounded down: 1 none, 2 one; 0 where
+// there are none, as it has no share.
+fn spare(amount: u32, sum: u32, down: u64, cleared: u32) -> u64 {
+    if part(amount, sum) < 2 {
         0
-    } else if s.down < cleared as u64 {
+    } else if down < cleared as u64 {
         2
     } else {
         1
@@ -61,25 +50,25 @@ fn spare(s: Share, cleared: u32) -> u64 {
 }
 
 // Says what the row's level receives of what is offered at it, and the row's share.
-fn say_share(quantity: u32, s: Share, cleared: u32) {
+pub fn say_share(quantity: u32, amount: u32, sum: u32, down: u64, remainder: u64, cleared: u32) {
     say(
         b"  its level receives ~ MW (#) of ~ MW (#)
-  [X leaves nothing for it\
+  [X leaves nothing for it, so nothing of the row clears\
     |that is all, so the row clears whole\
     |its share is # x # / # = #, remainder #]
 [|  it gets no spare tenth
 |  it gets one spare tenth
 ]",
         &[
-            s.amount as u64,
-            s.sum as u64,
-            part(s),
+            amount as u64,
+            sum as u64,
+            part(amount, sum),
             quantity as u64,
-            s.amount as u64,
-            s.sum as u64,
-            s.down,
-            s.remainder,
-            spare(s, cleared),
+            amount as u64,
+            sum as u64,
+            down,
+            remainder,
+            spare(amount, sum, down, cleared),
         ],
     );
 }
@@ -98,8 +87,7 @@ fn reason(mills: u64, cleared: u32, committed: u32) -> u64 {
 }
 
 // Says what a row clears and commits, and its make-whole or why there is none.
-fn say_settled(price: ClearingPrice, cleared: u32, committed: u32) {
-    let mills = make_whole(price, cleared, committed);
+pub fn say_settled(cleared: u32, committed: u32, mills: u64) {
     say(
         b"  cleared ~ MW (#), committed ~ MW (#)
   make-whole [0: nothing of the row cleared, so it commits nothing\
@@ -115,13 +103,4 @@ fn say_settled(price: ClearingPrice, cleared: u32, committed: u32) {
             mills,
         ],
     );
-}
-
-// Says a row.
-pub fn say_row(row: usize, o: Offer, s: Share, price: ClearingPrice, cleared: u32, committed: u32) {
-    let block = o.block;
-    say_offer(row, o);
-    say_terms(block, o.stamp);
-    say_share(o.quantity, s, cleared);
-    say_settled(price, cleared, committed);
 }

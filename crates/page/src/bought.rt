@@ -1,14 +1,10 @@
 // What the curve buys: its three points, the total and where it stops, the price and what sets it.
-use crate::say::say;
+use crate::say;
 use curve::Curve;
 use market::margin::Level;
-use market::price::ClearingPrice;
-use workings::stop::Next;
-use workings::stop::Stop;
-use workings::stop::Tenth;
 
 // Says the three points.
-fn say_curve(c: Curve) {
+pub fn say_curve(c: Curve) {
     let p1 = c.p1;
     let p2 = c.p2;
     say(
@@ -29,38 +25,34 @@ fn say_curve(c: Curve) {
 }
 
 // Says the total, the curve price there, and what is offered at it or below.
-fn say_total(total: u32, last: Tenth) {
-    let price = last.price;
+pub fn say_total(total: u32, curve_price: u32, offered: u32) {
     say(
         b"The cleared total X is ~ MW (#)
   at X the curve price is $ (#)
     offered at it or below: ~ MW (#)
 ",
-        &[total as u64, price.0 as u64, last.offered as u64],
+        &[total as u64, curve_price as u64, offered as u64],
     );
 }
 
-// Says why the total stops.
-fn say_next(next: Next) {
-    match next {
-        Next::Bought(t) => {
-            let price = t.price;
-            say(
-                b"  at X + 1 the curve price is $ (#)
+// Says that too little is offered for one tenth more.
+pub fn say_next(curve_price: u32, offered: u32) {
+    say(
+        b"  at X + 1 the curve price is $ (#)
     offered at it or below: ~ MW (#)
     that is less than X + 1, so X stops here
 
 ",
-                &[price.0 as u64, t.offered as u64],
-            );
-        }
-        Next::NoMore => {
-            say(
-                b"  X is Q3, the last point of the curve, so X stops here\n\n",
-                &[],
-            );
-        }
-    }
+        &[curve_price as u64, offered as u64],
+    );
+}
+
+// Says that the curve ends at the total.
+pub fn say_last_point() {
+    say(
+        b"  X is Q3, the last point of the curve, so X stops here\n\n",
+        &[],
+    );
 }
 
 // What sets the price: 0 the curve, as no price has more than the total; else the next price is 1 under the curve price, 2
@@ -77,8 +69,8 @@ fn setter(level: Level, curve_price: u32) -> u64 {
     }
 }
 
-// Says the price and what sets it.
-fn say_price(cents: u32, level: Level, curve_price: u32) {
+// Says the price, of the curve price at the total and the level at which it stops, and what sets it.
+pub fn say_price(cents: u32, level: Level, curve_price: u32) {
     say(
         b"The price is $ dollars per MW-day (# cents)[|: a price, and it is zero]
   [no more than X is offered at any price|lowest price with more than X offered up to it: $ (#)
@@ -100,23 +92,10 @@ fn say_price(cents: u32, level: Level, curve_price: u32) {
     );
 }
 
-// Says what the curve buys, and the price, or that there is none.
-pub fn say_bought(stop: Stop, total: u32, price: ClearingPrice) {
-    let last = stop.last;
-    let curve_price = last.price;
-    let next = stop.next;
-    say_curve(stop.curve);
-    say_total(total, last);
-    say_next(next);
-    match price {
-        ClearingPrice::Price(cents) => {
-            say_price(cents.0, stop.level, curve_price.0);
-        }
-        ClearingPrice::NoPrice => {
-            say(
-                b"Nothing cleared, so there is no price; no price is not a price of zero\n\n",
-                &[],
-            );
-        }
-    }
+// Says that there is no price.
+pub fn say_no_price() {
+    say(
+        b"Nothing cleared, so there is no price; no price is not a price of zero\n\n",
+        &[],
+    );
 }

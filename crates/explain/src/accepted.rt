@@ -1,0 +1,97 @@
+// An accepted book: what the curve buys, and its rows.
+use market::price::ClearingPrice;
+use page::bought::say_curve;
+use page::bought::say_last_point;
+use page::bought::say_next;
+use page::bought::say_no_price;
+use page::bought::say_price;
+use page::bought::say_total;
+use page::rows::say_offer;
+use page::rows::say_settled;
+use page::rows::say_share;
+use settle::make_whole;
+use values::place::Offer;
+use workings::read::RowOffer;
+use workings::read::offer_of;
+use workings::read::rows_of;
+use workings::share::RowShare;
+use workings::share::Share;
+use workings::stop::Next;
+use workings::stop::Stop;
+use workings::works::Answer;
+use workings::works::workings;
+
+// The curve, the total and why it stops there.
+fn explain_total(stop: Stop) {
+    let level = stop.level;
+    let last = stop.last;
+    let next = stop.next;
+    let price = last.price;
+    say_curve(stop.curve);
+    say_total(level.total, price.0, last.offered);
+    match next {
+        Next::Bought(t) => {
+            let next_price = t.price;
+            say_next(next_price.0, t.offered);
+        }
+        Next::NoMore => say_last_point(),
+    }
+}
+
+// The price and what sets it, or that there is none.
+fn explain_price(stop: Stop, price: ClearingPrice) {
+    let last = stop.last;
+    let curve_price = last.price;
+    match price {
+        ClearingPrice::Price(cents) => say_price(cents.0, stop.level, curve_price.0),
+        ClearingPrice::NoPrice => say_no_price(),
+    }
+}
+
+// What the curve buys of a book, and the price.
+pub fn explain_market(book: &[u8], price: ClearingPrice) {
+    if let Answer::Worked(w) = workings(book, 0) {
+        explain_total(w.stop);
+        explain_price(w.stop, price);
+    }
+}
+
+// A row with its offer and its share.
+fn explain_share(
+    row: usize,
+    o: Offer,
+    s: Share,
+    price: ClearingPrice,
+    cleared: u32,
+    committed: u32,
+) {
+    say_offer(row, o);
+    say_share(o.quantity, s.amount, s.sum, s.down, s.remainder, cleared);
+    say_settled(cleared, committed, make_whole(price, cleared, committed));
+}
+
+// A row of a book.
+fn explain_row(book: &[u8], row: usize, price: ClearingPrice, cleared: u32, committed: u32) {
+    let RowOffer::Offered(o) = offer_of(book, row) else {
+        return;
+    };
+    if let Answer::Worked(w) = workings(book, row) {
+        let share = w.share;
+        if let RowShare::Shares(s) = share {
+            explain_share(row, o, s, price, cleared, committed);
+        }
+    }
+}
+
+// The rows of a book.
+pub fn explain_rows(
+    book: &[u8],
+    price: ClearingPrice,
+    cleared: &[u32; 600],
+    committed: &[u32; 600],
+) {
+    let n = rows_of(book);
+    for row in 0..n {
+        explain_row(book, row, price, cleared[row], committed[row]);
+    }
+}

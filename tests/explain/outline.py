@@ -1,0 +1,128 @@
+"""A book and its clearing, from the outline and apart from the library: what page.py writes about.
+
+    form_fault(book)            the refusal by 1 to 3, or None
+    parameters(book)            year, [C, E, F, R] with None where one is missing, number of offers
+    offers_in(book, count)      the offers
+    fault(year, values, offers) the refusal by 4 to 8, or None
+    Market(values, offers)      the curve, the total, the price, and what each row clears
+"""
+import collections
+import struct
+
+Offer = collections.namedtuple("Offer", "resource seller price quantity block stamp")
+
+
+def layout_holds(k, block, offers):
+    """Whether offer block k is laid out as it has to be."""
+    here = min(15, offers - 15 * (k - 1))
+    if block[:8] != b"OFRS" + struct.pack("<HH", k, here) or any(block[8:28]) or any(block[28 + 32 * here:508]):
+        return False
+    places = [block[28 + 32 * row:60 + 32 * row] for row in range(here)]
+    return all(place[28] < 4 and not any(place[29:])
+               and (place[28] & 1 or not any(place[8:12])) and (place[28] & 2 or not any(place[16:20])) for place in places)
+
+
+def form_fault(book):
+    if len(book) % 512 or not 512 <= len(book) <= 20992:
+        return 1, 0
+    cut = [book[at:at + 512] for at in range(0, len(book), 512)]
+    for k, block in enumerate(cut):
+        sums = sum(block[:508]) % 65536, sum(byte * (i + 1) for i, byte in enumerate(block[:508])) % 65536
+        if struct.unpack("<HH", block[508:]) != sums:
+            return 2, k
+    head, offers, marks = cut[0], struct.unpack_from("<H", cut[0], 24)[0], cut[0][26]
+    absent = all(marks >> bit & 1 or not any(head[8 + 4 * bit:12 + 4 * bit]) for bit in range(4))
+    counted = offers <= 600 and len(cut) == 1 + (offers + 14) // 15
+    if head[:6] != b"RPMB\1\0" or not counted or marks > 15 or not absent or any(head[27:508]):
+        return 3, 0
+    return next(((3, k) for k, block in enumerate(cut) if k and not layout_holds(k, block, offers)), None)
+
+
+def parameters(book):
+    year, *values, offers, marks = struct.unpack_from("<HIIIIHB", book, 6)
+    return year, [value if marks >> bit & 1 else None for bit, value in enumerate(values)], offers
+
+
+def offers_in(book, count):
+    for row in range(count):
+        at = 512 * (1 + row // 15) + 28 + 32 * (row % 15)
+        resource, seller, price, quantity, block, stamp, marks = struct.unpack_from("<IIIIIQB", book, at)
+        yield Offer(resource, seller, price if marks & 1 else None, quantity, block if marks & 2 else None, stamp)
+
+
+def in_range(o):
+    block = o.block is None or 1 <= o.block <= o.quantity
+    return o.resource and o.seller and o.price <= 1000000 and 1 <= o.quantity <= 200000 and block
+
+
+def fault(year, values, offers):
+    for field, value in enumerate(values, 2):
+        if value is None:
+            return 4, field
+    c, e, f, r = values
+    tests = [2026 <= year <= 2099, 1 <= c <= 1000000, e <= c, f <= 5000, 1000 <= r <= 2000000]
+    if not all(tests):
+        return 5, 1 + tests.index(False)
+    seen = set()
+    for row, o in enumerate(offers):
+        if o.price is None:
+            return 6, row
+        if not in_range(o):
+            return 7, row
+        if o.resource in seen:
+            return 8, row
+        seen.add(o.resource)
+    return None
+
+
+def nearest(a, b):
+    return (2 * a + b) // (2 * b)
+
+
+def largest(top, test):
+    """The largest number up to the top that passes a test which no number past it passes."""
+    low, high = 0, top
+    while low < high:
+        middle = (low + high + 1) // 2
+        low, high = (middle, high) if test(middle) else (low, middle - 1)
+    return low
+
+
+class Market:
+    def __init__(self, values, offers):
+        c, e, f, r = values
+        self.offers = offers
+        amounts = max(4 * c, 7 * (c - e)), 3 * (c - e)
+        self.p1, self.p2 = (nearest(quarters * 1000000, 1460 * (10000 - f)) for quarters in amounts)
+        self.q1, self.q2, self.q3 = (nearest(r * weight, 10000) for weight in (9900, 10150, 10450))
+        self.x = largest(self.q3, lambda k: self.supply(self.curve(k)) >= k)
+        self.more = min((o.price for o in offers if self.supply(o.price) > self.x), default=None)
+        reached = [self.curve(self.x)] + ([] if self.more is None else [self.more])
+        self.price = None if self.x == 0 else min(reached)
+        self.levels = {price: self.level(price) for price in {o.price for o in offers}}
+
+    def curve(self, k):
+        if k <= self.q1:
+            return self.p1
+        pa, pb, qa, qb = (self.p1, self.p2, self.q1, self.q2) if k <= self.q2 else (self.p2, 0, self.q2, self.q3)
+        return (pa * (qb - k) + pb * (k - qa)) // (qb - qa)
+
+    def supply(self, price):
+        return sum(o.quantity for o in self.offers if o.price <= price)
+
+    def level(self, price):
+        """What the level at a price receives and offers, and the resources that get a spare tenth."""
+        tied = [o for o in self.offers if o.price == price]
+        offered = sum(o.quantity for o in tied)
+        amount = max(0, min(self.x - self.supply(price - 1), offered))
+        order = sorted(tied, key=lambda o: (-(o.quantity * amount % offered), o.stamp, o.resource))
+        spare = amount - sum(o.quantity * amount // offered for o in tied)
+        return amount, offered, {o.resource for o in order[:spare]}
+
+    def cleared(self, o):
+        amount, offered, spared = self.levels[o.price]
+        return o.quantity * amount // offered + (o.resource in spared)
+
+    def committed(self, o):
+        cleared = self.cleared(o)
+        return max(cleared, o.block or 0) if cleared else 0

@@ -1,0 +1,35 @@
+"""Refusals as the page says them: number, place, and what is wrong there."""
+from amounts import megawatts, price
+
+FIELDS = ["", "the delivery year", "C, the cost of new entry,", "E, the revenue offset,", "F, the outage rate,", "R, the requirement,"]
+RANGES = ["", "2026 to 2099", "1 to 1000000", "0 to C", "0.00 to 50.00 percent", "100.0 to 200000.0 MW"]
+READ = 65536
+
+
+def of_form(number, place, length):
+    if number == 1:
+        yield f"refused 1 at 0\n  the length is {min(length, READ)} bytes{' or more' if length >= READ else ''}\n"
+        yield "  it has to be a multiple of 512, from 512 to 20992\n"
+        return
+    yield f"refused {number} at block {place}\n"
+    if number == 2:
+        yield f"  the check of block {place} is wrong, so nothing of the book is read\n"
+    else:
+        yield f"  letters, edition, block number, counts, unused marks or bytes of block {place}\n"
+        yield "  differ from the layout, or a value marked absent is not zero\n"
+
+
+def of_values(number, place, offers):
+    if number < 6:
+        wrong = "missing; a missing value is not zero" if number == 4 else "out of range"
+        yield f"refused {number} at field {place}\n  {FIELDS[place]} is {wrong}\n  its range is {RANGES[place]}\n"
+        return
+    o = offers[place]
+    first = [other.resource for other in offers].index(o.resource)
+    words = ["no price; a missing price is not zero", "a value out of range", f"a resource number of an earlier row: row {first}"]
+    yield f"refused {number} at row {place}\n  row {place} (resource {o.resource}) has {words[number - 6]}\n"
+    if number == 7:
+        block = "not given" if o.block is None else f"{megawatts(o.block)}, from 0.1 MW (1) to the quantity"
+        yield f"    resource {o.resource}, from 1\n    seller {o.seller}, from 1\n"
+        yield f"    price {price(o.price)}, from 0.00 to 10000.00 (1000000)\n"
+        yield f"    quantity {megawatts(o.quantity)}, from 0.1 to 20000.0 MW (200000)\n    minimum block {block}\n"
