@@ -1,11 +1,11 @@
 //! Reading: length, checks, layout, and the limits of the values.
 
+use crate::block::{check_holds, head_laid_out, u16_at, u32_at, zero, BLOCK};
 use crate::curve::Curve;
 use crate::manner::Manner;
 use crate::Fault;
 use std::collections::HashSet;
 
-const BLOCK: usize = 512;
 const PLACE: usize = 32;
 const PLACES: usize = 15;
 const MOST_OFFERS: usize = 600;
@@ -135,24 +135,6 @@ impl Offer {
     }
 }
 
-/// Both sums modulo 65,536, in 16-bit arithmetic.
-fn check_holds(block: &[u8; BLOCK]) -> bool {
-    let (mut plain, mut placed) = (0u16, 0u16);
-    for (at, &byte) in block[..508].iter().enumerate() {
-        plain = plain.wrapping_add(byte.into());
-        placed = placed.wrapping_add(u16::from(byte).wrapping_mul(at as u16 + 1));
-    }
-    plain == u16_at(block, 508) && placed == u16_at(block, 510)
-}
-
-fn head_laid_out(head: &[u8; BLOCK]) -> bool {
-    let marks = head[26];
-    head.starts_with(b"RPMB\x01\x00")
-        && marks < 16
-        && (0..4).all(|field| marks >> field & 1 == 1 || u32_at(head, 8 + 4 * field) == 0)
-        && zero(&head[27..508])
-}
-
 /// Adds a block's offers to the list, if the block is laid out as it should be.
 fn read_offers(block: &[u8; BLOCK], number: usize, used: usize, offers: &mut Vec<Offer>) -> Option<()> {
     let (places, _) = block[28..508].as_chunks::<PLACE>();
@@ -171,16 +153,4 @@ fn read_offers(block: &[u8; BLOCK], number: usize, used: usize, offers: &mut Vec
         offers.push(offer);
     }
     Some(())
-}
-
-fn zero(bytes: &[u8]) -> bool {
-    bytes.iter().fold(0, |all, byte| all | byte) == 0
-}
-
-fn u16_at(bytes: &[u8], at: usize) -> u16 {
-    u16::from_le_bytes(bytes[at..at + 2].try_into().unwrap())
-}
-
-fn u32_at(bytes: &[u8], at: usize) -> u32 {
-    u32::from_le_bytes(bytes[at..at + 4].try_into().unwrap())
 }

@@ -7,6 +7,7 @@
 //! `clear` finds repeats with the standard HashSet and orders ties with a sort; `clear_tuned` has a quicker hash and a selection.
 
 mod auction;
+mod block;
 mod book;
 mod curve;
 mod manner;

@@ -111,8 +111,7 @@ fn laid_out(blocks: &[&[u8]], at: usize) -> bool {
     if at == 0 {
         head_laid_out(blocks[0]) && count_fits(count(blocks), blocks.len())
     } else {
-        let before = PLACES * (at - 1);
-        offers_laid_out(blocks[at], at, (count(blocks) - before).min(PLACES))
+        offers_laid_out(blocks[at], at, (count(blocks) - PLACES * (at - 1)).min(PLACES))
     }
 }
 

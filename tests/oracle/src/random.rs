@@ -3,6 +3,8 @@
 //! About half of the calls clear. The others have values missing, out of range or repeated, or bytes damaged with the sums left
 //! as they were or made right again, or a buffer too short.
 
+mod columns;
+pub mod damage;
 pub mod valid;
 pub mod wrong;
 
@@ -98,7 +100,7 @@ pub fn book(rng: &mut Rng) -> (Kind, Vec<u8>) {
     match rng.draw() % 100 {
         0..=59 => (Kind::Valid, valid::book(rng)),
         60..=74 => (Kind::Faulty, wrong::faulty(rng)),
-        75..=94 => (Kind::Damaged, wrong::damaged(rng)),
+        75..=94 => (Kind::Damaged, damage::damaged(rng)),
         _ => (Kind::Stray, wrong::stray(rng)),
     }
 }

@@ -1,0 +1,33 @@
+//! A block's bytes: its numbers, its sums, and the layout of block 0.
+
+pub const BLOCK: usize = 512;
+
+/// Both sums modulo 65,536, in 16-bit arithmetic.
+pub fn check_holds(block: &[u8; BLOCK]) -> bool {
+    let (mut plain, mut placed) = (0u16, 0u16);
+    for (at, &byte) in block[..508].iter().enumerate() {
+        plain = plain.wrapping_add(byte.into());
+        placed = placed.wrapping_add(u16::from(byte).wrapping_mul(at as u16 + 1));
+    }
+    plain == u16_at(block, 508) && placed == u16_at(block, 510)
+}
+
+pub fn head_laid_out(head: &[u8; BLOCK]) -> bool {
+    let marks = head[26];
+    head.starts_with(b"RPMB\x01\x00")
+        && marks < 16
+        && (0..4).all(|field| marks >> field & 1 == 1 || u32_at(head, 8 + 4 * field) == 0)
+        && zero(&head[27..508])
+}
+
+pub fn zero(bytes: &[u8]) -> bool {
+    bytes.iter().fold(0, |all, byte| all | byte) == 0
+}
+
+pub fn u16_at(bytes: &[u8], at: usize) -> u16 {
+    u16::from_le_bytes(bytes[at..at + 2].try_into().unwrap())
+}
+
+pub fn u32_at(bytes: &[u8], at: usize) -> u32 {
+    u32::from_le_bytes(bytes[at..at + 4].try_into().unwrap())
+}
