@@ -4,7 +4,7 @@
 """
 import outline
 import refusals
-from amounts import dollars, megawatts, parts, price
+from words import dollars, megawatts, offer_lines, parts, price
 
 
 def stated(year, values, count):
@@ -62,8 +62,7 @@ def row_lines(m, row, o):
     amount, offered, spared = m.levels[o.price]
     cleared, committed = m.cleared(o), m.committed(o)
     mills = (m.price or 0) * (committed - cleared)
-    yield f"row {row}, resource {o.resource}: {megawatts(o.quantity)} {'offered at zero' if o.price == 0 else 'at ' + price(o.price)}\n"
-    yield f"  {'flexible' if o.block is None else 'minimum block ' + megawatts(o.block)}, stamp {o.stamp}\n"
+    yield from offer_lines(row, o)
     yield f"  its level receives {megawatts(amount)} of {megawatts(offered)}\n"
     if amount == 0:
         yield "  X leaves nothing for it, so nothing of the row clears\n"

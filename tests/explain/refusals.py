@@ -1,5 +1,5 @@
 """Refusals as the page says them: number, place, and what is wrong there."""
-from amounts import megawatts, price
+from words import megawatts, offer_lines, price
 
 FIELDS = ["", "the delivery year", "C, the cost of new entry,", "E, the revenue offset,", "F, the outage rate,", "R, the requirement,"]
 RANGES = ["", "2026 to 2099", "1 to 1000000", "0 to C", "0.00 to 50.00 percent", "100.0 to 200000.0 MW"]
@@ -28,7 +28,9 @@ def of_values(number, place, offers):
     first = [other.resource for other in offers].index(o.resource)
     words = ["no price; a missing price is not zero", "a value out of range", f"a resource number of an earlier row: row {first}"]
     yield f"refused {number} at row {place}\n  row {place} (resource {o.resource}) has {words[number - 6]}\n"
-    if number == 7:
+    if number != 7:
+        yield from offer_lines(place, o)
+    else:
         block = "not given" if o.block is None else f"{megawatts(o.block)}, from 0.1 MW (1) to the quantity"
         yield f"    resource {o.resource}, from 1\n    seller {o.seller}, from 1\n"
         yield f"    price {price(o.price)}, from 0.00 to 10000.00 (1000000)\n"

@@ -11,6 +11,7 @@ use ozpinduru::call::clear;
 use page::stated::say_stated;
 use page::totals::say_totals;
 use refused::explain_refusal;
+use sale::Clearing;
 use sale::payment::days_of;
 use workings::read::Head;
 use workings::read::head_of;
@@ -22,11 +23,11 @@ fn explain_head(book: &[u8]) {
     }
 }
 
-// The days of the delivery year of a book.
-fn book_days(book: &[u8]) -> u64 {
-    match head_of(book) {
-        Head::Stated(p, _) => days_of(p.year),
-        Head::Unread => 0,
+// The totals of a book.
+fn explain_totals(book: &[u8], c: Clearing) {
+    if let Head::Stated(p, _) = head_of(book) {
+        let price = c.price;
+        say_totals(price, c.daily, c.make_whole, days_of(p.year), c.year);
     }
 }
 
@@ -41,7 +42,7 @@ fn explain(book: &[u8]) {
             let price = c.price;
             explain_market(book, price);
             explain_rows(book, price, &cleared, &committed);
-            say_totals(price, c.daily, c.make_whole, book_days(book), c.year);
+            explain_totals(book, c);
         }
     }
 }

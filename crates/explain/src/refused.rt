@@ -4,6 +4,7 @@ use page::refused::say_length;
 use page::refused::say_parameter;
 use page::refused::say_row;
 use page::refused::say_values;
+use page::rows::say_offer;
 use workings::read::RowOffer;
 use workings::read::offer_of;
 
@@ -19,13 +20,14 @@ fn first_row(book: &[u8], row: usize, resource: u32) -> usize {
     row
 }
 
-// 6, 7 and 8: a row.
-fn explain_row(book: &[u8], number: u32, row: u32) {
-    if let RowOffer::Offered(o) = offer_of(book, row as usize) {
-        let first = first_row(book, row as usize, o.resource);
-        say_row(number, row, o.resource, first);
+// 6, 7 and 8: a row, with its values.
+fn explain_row(book: &[u8], number: u32, row: usize) {
+    if let RowOffer::Offered(o) = offer_of(book, row) {
+        say_row(number, row, o.resource, first_row(book, row, o.resource));
         if number == 7 {
             say_values(o);
+        } else {
+            say_offer(row, o);
         }
     }
 }
@@ -36,6 +38,6 @@ pub fn explain_refusal(book: &[u8], number: u32, place: u32) {
         1 => say_length(book.len()),
         2 | 3 => say_block(number, place),
         4 | 5 => say_parameter(number, place),
-        _ => explain_row(book, number, place),
+        _ => explain_row(book, number, place as usize),
     }
 }

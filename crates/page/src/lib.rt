@@ -26,3 +26,11 @@ fn if_given(value: Value) -> u64 {
         Value::Missing => 0,
     }
 }
+
+// The words for a value: 0 where it is missing, 1 where it is given as zero, 2 for any other number.
+fn words_for(value: Value) -> u64 {
+    match value {
+        Value::Given(number) => { if number == 0 { 1 } else { 2 } }
+        Value::Missing => 0,
+    }
+}

@@ -55,7 +55,7 @@ pub fn say_parameter(number: u32, field: u32) {
 }
 
 // 6 and 8: a row has no price, or the resource number of an earlier row; and the first lines of 7.
-pub fn say_row(number: u32, row: u32, resource: u32, first: usize) {
+pub fn say_row(number: u32, row: usize, resource: u32, first: usize) {
     say(
         b"refused # at row #
   row # (resource #) has [||||||no price; a missing price is not zero\

@@ -1,6 +1,7 @@
-// A row of an accepted book: its offer, its share of its price level, and what it clears, commits and is paid.
+// A row: its offer, its share of its price level, and what it clears, commits and is paid.
 use crate::if_given;
 use crate::say;
+use crate::words_for;
 use values::number_held;
 use values::place::Offer;
 
@@ -8,17 +9,16 @@ use values::place::Offer;
 pub fn say_offer(row: usize, o: Offer) {
     let price = o.price;
     let block = o.block;
-    let cents = number_held(price);
     say(
-        b"row #, resource #: ~ MW (#) [offered at zero|at $ (#)]
+        b"row #, resource #: ~ MW (#)[, no price entered| offered at zero| at $ (#)]
   [flexible|minimum block ~ MW (#)], stamp #
 ",
         &[
             row as u64,
             o.resource as u64,
             o.quantity as u64,
-            (cents > 0) as u64,
-            cents as u64,
+            words_for(price),
+            number_held(price) as u64,
             if_given(block),
             number_held(block) as u64,
             o.stamp,

@@ -1,16 +1,8 @@
 // What a book states: its parameters, each given or missing.
 use crate::say;
-use values::Value;
+use crate::words_for;
 use values::head::Parameters;
 use values::number_held;
-
-// The words for a value: 0 where it is missing, 1 where it is given as zero, 2 for any other number.
-fn words_for(value: Value) -> u64 {
-    match value {
-        Value::Given(number) => { if number == 0 { 1 } else { 2 } }
-        Value::Missing => 0,
-    }
-}
 
 // Says the parameters and the number of offers.
 pub fn say_stated(p: Parameters, offers: u32) {

@@ -1,16 +1,17 @@
 -- What a text leaves that is put at a place.
 --
--- In order: a text that doesn't fit, one that fits, two texts, one behind the other, no text, what then stands at the front,
--- and that a text leaves one outcome.
+-- In order: a text that doesn't fit, one that fits, two texts, one behind the other, no text, a place past the end, what then
+-- stands at the front, and that a text leaves one outcome.
 -- Assumes nothing.
 use mathlib.Core.Path.{_≡_, sym, ap, _∙_}
 use mathlib.Core.List.{List, [], _++_, append-assoc}
 use Prim.Native.Nat.{ℕ, _+_, _≤_, _<_, min}
-use native.Mathlib.Nat.{le-refl, add-assoc}
+use native.Mathlib.Nat.{le-refl, le-of-lt, add-assoc, min-eq-left, min-eq-right}
 use native.Mathlib.Omega.{arith}
 use lib.ListN.{length, take, length-append}
 use lib.Seq.{paste, paste-zero, length-paste, take-paste, drop-paste, take-length, drop-drop}
 use borrow.Author.Tests.{le-leb, lt-leb}
+use Rattle.laws.proofs.Cases.{by-order}
 use Rattle.io.proofs.Counting.{counts}
 use Rattle.text.specs.Put.{put, putEnd, Written}
 
@@ -79,6 +80,32 @@ module _ (out : List ℕ) (at : ℕ) (xs ys : List ℕ) (fits : at + length xs +
 -- nothing put leaves all as it is
 pub written-none : (out : List ℕ) (at : ℕ) → at ≤ length out → Written out at [] out at
 written-none out at h = written-fits out at [] (omega arith) (paste-zero out at []) (omega arith)
+
+-- at the end nothing but nothing fits, so all stays as it is
+written-end : (out bytes : List ℕ) {after : List ℕ} {end : ℕ} → Written out (length out) bytes after end
+    → (after ≡ out) × (end ≡ length out)
+unfolding put putEnd
+written-end out bytes w =
+    by-order (length bytes) 0
+    (λ none.
+    let e : length bytes ≡ 0 = omega arith in
+    let fits : length out + length bytes ≤ length out = omega arith in (
+      fits-buffer out (length out) bytes fits w ∙ ap (paste out (length out) bytes) e ∙ sym (paste-zero out (length out) bytes),
+      omega (arith, fits-place out (length out) bytes fits w),
+    ))
+    (λ some.
+    let past : length out < length out + length bytes = omega arith in
+    (rw (lt-leb _ _ past) at (w .buffer), omega (arith, rw (lt-leb _ _ past) at (w .place))))
+
+-- a place past the end counts as the end
+pub written-clamped : (out : List ℕ) (at : ℕ) (bytes : List ℕ) {after : List ℕ} {place end : ℕ} → place ≡ min at (length out)
+    → Written out place bytes after end → Written out at bytes after end
+written-clamped out at bytes e w =
+    by-order at (length out)
+    (λ within. rw (e, min-eq-left within) at w)
+    (λ past.
+    let kept = written-end out bytes (rw (e, min-eq-right (le-of-lt past)) at w) in
+    rw (kept .0) (written-past out at bytes (omega arith) (omega (arith, kept .1))))
 
 -- what stands at the front, where the bytes were put there
 pub written-taken : (out bytes : List ℕ) {after : List ℕ} {end : ℕ} → length bytes ≤ length out → Written out 0 bytes after end

@@ -3,7 +3,7 @@
 // In a form `#` stands for a number, and each takes the next one. `~`, `$` and `&` show that number with one, two or three
 // digits behind a point and leave it to be taken. `[a|b|c]` takes the next number too, and shows `a` for 0, `b` for 1, `c` for
 // 2; a `#` that is not shown takes its number all the same, so that a form has one list of numbers.
-use crate::number::least;
+use crate::least;
 use crate::put_byte;
 use crate::put_decimal;
 use crate::put_number;
@@ -11,7 +11,8 @@ ghost use Prim.Native.Nat.{_+_, _≤_, _<_};
 ghost use lib.ListN.{length};
 ghost use Rattle.io.specs.Counts.{Counts};
 
-// Puts a form. A piece of it that doesn't fit is left out, and a number that isn't there is 0.
+// Puts a form, piece by piece: one that doesn't fit is left out, and a number that isn't there is shown as all ones. What the
+// form then reads is for tests to say.
 pub fn put_form(out: &mut [u8], at: usize, form: &[u8], numbers: &[u64]) -> usize
     ensures { λ r. ⌜ Counts r (now (out .exit)) ⌝ }
 {
@@ -37,11 +38,18 @@ fn put_mark(out: &mut [u8], at: usize, mark: u8, number: u64) -> usize
 {
     match mark {
         b'#' => put_number(out, at, number),
-        b'~' => put_decimal(out, at, number, 1),
-        b'$' => put_decimal(out, at, number, 2),
-        b'&' => put_decimal(out, at, number, 3),
+        b'~' | b'$' | b'&' => put_decimal(out, at, number, places(mark)),
         b'[' | b'|' | b']' => at,
         _ => put_byte(out, at, mark),
+    }
+}
+
+// How many digits a mark shows behind the point.
+fn places(mark: u8) -> usize {
+    match mark {
+        b'~' => 1,
+        b'$' => 2,
+        _ => 3,
     }
 }
 
@@ -50,8 +58,13 @@ fn shown(mark: u8, is_shown: bool) -> u8 {
     if is_shown { mark } else { b'|' }
 }
 
+// A number of the list, and all ones past its end.
 fn number_at(numbers: &[u64], i: usize) -> u64 {
-    if i < numbers.len() { numbers[i] } else { 0 }
+    if i < numbers.len() {
+        numbers[i]
+    } else {
+        18446744073709551615
+    }
 }
 
 // How many numbers are taken.

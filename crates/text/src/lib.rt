@@ -1,7 +1,8 @@
 // Lines of text in one buffer, so that a program writes once.
 //
 // Each function puts a text at a place, all of it where it fits from there to the end and else nothing, and answers the place
-// behind it. No place that is answered lies past the end, so a caller goes on from it, and lends `&out[..at]`, with no test.
+// behind it; `put_form` alone puts piece by piece. No place that is answered lies past the end, so a caller goes on from it,
+// and lends `&out[..at]`, with no test.
 mod form;
 mod number;
 
@@ -9,7 +10,7 @@ pub use form::put_form;
 pub use number::put_decimal;
 pub use number::put_number;
 ghost use mathlib.Core.Path.{_≡_};
-ghost use Prim.Native.Nat.{_-_};
+ghost use Prim.Native.Nat.{_-_, _≤_, min};
 ghost use mathlib.Core.List.{[], _∷_};
 ghost use Rattle.text.specs.Put.{Written, rightText};
 
@@ -44,13 +45,10 @@ pub fn put_right(out: &mut [u8], at: usize, bytes: &[u8], width: usize, fill: u8
     ensures { λ r. ⌜ Written (now (out .entry)) at (rightText width fill (now (bytes .entry))) (now (out .exit)) r ⌝ }
 {
     let gap = less(width, bytes.len());
-    if at > out.len() {
-        return out.len();
+    let mut place = least(at, out.len());
+    if gap + bytes.len() > out.len() - place {
+        return place;
     }
-    if gap + bytes.len() > out.len() - at {
-        return at;
-    }
-    let mut place = at;
     let mut i = 0;
     while i < gap {
         place = put_byte(out, place, fill);
@@ -64,4 +62,10 @@ fn less(a: usize, b: usize) -> usize
     ensures { λ r. ⌜ r ≡ a - b ⌝ }
 {
     if a < b { 0 } else { a - b }
+}
+
+fn least(a: usize, b: usize) -> usize
+    ensures { λ r. ⌜ (r ≡ min a b) × (r ≤ b) ⌝ }
+{
+    if a < b { a } else { b }
 }

@@ -1,4 +1,5 @@
 // Numbers as text, in decimal digits.
+use crate::least;
 use crate::put_byte;
 use crate::put_bytes;
 use crate::put_right;
@@ -49,10 +50,4 @@ fn power(places: usize) -> u64
         i += 1;
     }
     unit
-}
-
-pub(crate) fn least(a: usize, b: usize) -> usize
-    ensures { λ r. ⌜ (r ≡ min a b) × (r ≤ b) ⌝ }
-{
-    if a < b { a } else { b }
 }

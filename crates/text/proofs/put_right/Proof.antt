@@ -6,14 +6,14 @@ use native.Mathlib.Omega.{arith}
 use lib.ListN.{length, replicate}
 use borrow.Author.Needs.{needs}
 use Rattle.text.specs.Put.{Written}
-use Rattle.text.proofs.Puts.{written-past, written-none}
+use Rattle.text.proofs.Puts.{written-past, written-none, written-clamped}
 use Rattle.text.proofs.Fills.{length-right, written-more, written-right}
 use Rattle.text.proofs.put_right.Statement.{statement}
 use Rattle.text.proofs.put_right.Tie as tie
 
 abbrev Inv-loop : tie.InvT-loop
 Inv-loop out₀ at bytes width fill gap place₀ i₀ out place i =
-    (i ≤ gap) × (length out ≡ length out₀) × Written out₀ at (replicate i fill) out place
+    (i ≤ gap) × (length out ≡ length out₀) × Written out₀ place₀ (replicate i fill) out place
 
 abbrev μ-loop : tie.MeasureT-loop
 μ-loop out₀ at bytes width fill gap place₀ i₀ out place i = gap - i
@@ -21,26 +21,23 @@ abbrev μ-loop : tie.MeasureT-loop
 less-requires : tie.Need-less-requires Inv-loop μ-loop
 less-requires c κs = tt
 
+least-requires : tie.Need-least-requires Inv-loop μ-loop
+least-requires c κs = tt
+
+add-if1 : tie.Need-add-if1 Inv-loop μ-loop
+add-if1 c = search needs
+
+sub-if1 : tie.Need-sub-if1 Inv-loop μ-loop
+sub-if1 c = search needs
+
 returns : tie.Need-returns Inv-loop μ-loop
 returns c =
-    let a = c .before .before .before .before .args in
-    let long = length-right (a .width) (a .fill) (a .bytes .now) in
-    written-past _ _ _ (omega arith) (omega arith)
-
-add-if2 : tie.Need-add-if2 Inv-loop μ-loop
-add-if2 c = search needs
-
-sub-if2 : tie.Need-sub-if2 Inv-loop μ-loop
-sub-if2 c = search needs
-
-returns-2 : tie.Need-returns-2 Inv-loop μ-loop
-returns-2 c =
     let a = c .before .before .before .before .before .args in
     let long = length-right (a .width) (a .fill) (a .bytes .now) in
     written-past _ _ _ (omega arith) (omega arith)
 
 loop-holds : tie.Need-loop-holds Inv-loop μ-loop
-loop-holds c = (search needs, search needs, written-none _ _ (omega arith))
+loop-holds c = (search needs, search needs, written-none _ _ (c .before .least .ensures .1))
 
 put-byte-requires : tie.Need-put-byte-requires Inv-loop μ-loop
 put-byte-requires c κs = tt
@@ -62,10 +59,11 @@ put-bytes-requires c κs = tt
 same-length : tie.Need-same-length Inv-loop μ-loop
 same-length c = search needs
 
-returns-3 : tie.Need-returns-3 Inv-loop μ-loop
-returns-3 c =
+returns-2 : tie.Need-returns-2 Inv-loop μ-loop
+returns-2 c =
     let l = c .before .before .before .before .before .loop in
-    written-right _ _ _ _ _ (l .i) (omega arith) (omega arith) (l .inv .2) (c .before .before .put-bytes .ensures)
+    written-clamped _ _ _ (c .before .before .before .before .before .before .before .least .ensures .0)
+    (written-right _ _ _ _ _ (l .i) (omega arith) (omega arith) (l .inv .2) (c .before .before .put-bytes .ensures))
 
 pub put-right-spec : {M : Type 1} → statement M
 put-right-spec =
@@ -74,10 +72,10 @@ put-right-spec =
     Inv-loop
     μ-loop
     less-requires
+    least-requires
+    add-if1
+    sub-if1
     returns
-    add-if2
-    sub-if2
-    returns-2
     loop-holds
     put-byte-requires
     add-i
@@ -85,4 +83,4 @@ put-right-spec =
     loop-again
     put-bytes-requires
     same-length
-    returns-3)
+    returns-2)
