@@ -17,25 +17,25 @@ use Rattle.limits.proofs.Passing.{parameters-ranged}
 use Rattle.limits.proofs.PassingRows.{rows-sound, rows-priced, rows-distinct}
 use Rattle.layout.specs.Form.{formFault, offerCount}
 use Rattle.layout.specs.Read.{bookParameters, bookOffer, Inside}
-use Rattle.book.specs.Faults.{firstFault, soundFault}
-use Rattle.book.proofs.Stages.{first-formed, sound-formed, form-inside}
+use Rattle.book.specs.Faults.{statedFault, firstFault, soundFault}
+use Rattle.book.proofs.Stages.{first-stated, stated-form, stated-formed, sound-formed, form-inside}
 use Rattle.book.proofs.Unpriced.{rows-unpriced}
 
 -- ---- an accepted book
 
 module _ (b : List ℕ) (accepted : firstFault b ≡ Passed) where
+  stated-then-rows : andThen (statedFault b) (rowsFault true (bookOffer b) (offerCount b)) ≡ Passed
+  stated-then-rows = sym (first-stated b) ∙ accepted
+
+  accepted-stated : statedFault b ≡ Passed
+  accepted-stated = andThen-left (statedFault b) _ stated-then-rows
+
   -- It passes 1 to 3.
   pub accepted-form : formFault b ≡ Passed
-  unfolding firstFault
-  accepted-form = andThen-left (formFault b) _ accepted
-
-  parameters-then-rows :
-      andThen (andThen (missingFault (bookParameters b)) (rangeFault (bookParameters b))) (rowsFault true (bookOffer b) (offerCount b))
-      ≡ Passed
-  parameters-then-rows = sym (first-formed b accepted-form) ∙ accepted
+  accepted-form = stated-form b accepted-stated
 
   parameters-pass : andThen (missingFault (bookParameters b)) (rangeFault (bookParameters b)) ≡ Passed
-  parameters-pass = andThen-left _ _ parameters-then-rows
+  parameters-pass = sym (stated-formed b accepted-form) ∙ accepted-stated
 
   -- It passes 4.
   pub accepted-given : missingFault (bookParameters b) ≡ Passed
@@ -47,7 +47,7 @@ module _ (b : List ℕ) (accepted : firstFault b ≡ Passed) where
 
   -- Its rows pass 6, 7 and 8.
   pub accepted-rows : rowsFault true (bookOffer b) (offerCount b) ≡ Passed
-  accepted-rows = andThen-right (andThen (missingFault (bookParameters b)) (rangeFault (bookParameters b))) _ parameters-then-rows
+  accepted-rows = andThen-right (statedFault b) _ stated-then-rows
 
   -- Its rows are at most 600 and lie within it.
   pub accepted-inside : Inside b (offerCount b)

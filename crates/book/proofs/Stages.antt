@@ -1,14 +1,13 @@
 -- The faults of a book, stage by stage as the code goes: the form, the parameters, the rows.
 --
--- In order: three tests, of which two are taken together; what comes before the rows; the form in two steps; a book
--- whose form is refused; what decides where the form passed; that its rows then lie within it.
+-- In order: what comes before the rows; the form in two steps; a book whose form is refused; what decides where the form
+-- passed; that its rows then lie within it.
 -- Assumes nothing.
-use mathlib.Core.Path.{_≡_, refl, ap, _∙_}
+use mathlib.Core.Path.{_≡_, refl}
 use mathlib.Core.Bool.{true, false}
 use mathlib.Core.List.{List}
 use Prim.Native.Nat.{ℕ}
 use Rattle.values.specs.Refusals.{andThen}
-use Rattle.values.specs.declared.Verdict.{Verdict}
 use Rattle.values.specs.declared.Verdict.the-variants.{Passed, Refused}
 use Rattle.values.proofs.Firsts.{andThen-next, andThen-refused, andThen-left}
 use Rattle.limits.specs.Parameters.{missingFault, rangeFault}
@@ -18,17 +17,12 @@ use Rattle.layout.specs.Read.{bookParameters, bookOffer, Inside}
 use Rattle.layout.proofs.Passing.{form-passed-count, form-passed-row}
 use Rattle.book.specs.Faults.{firstFault, statedFault, soundFault}
 
-andThen-assoc : (u v w : Verdict) → andThen u (andThen v w) ≡ andThen (andThen u v) w
-andThen-assoc Passed v w = refl
-andThen-assoc (Refused number place) v w = refl
-
 -- ---- what comes before the rows
 
 -- of a book to be cleared it decides, and then the rows do
 pub first-stated : (b : List ℕ) → firstFault b ≡ andThen (statedFault b) (rowsFault true (bookOffer b) (offerCount b))
-unfolding firstFault statedFault
-first-stated b =
-    ap (andThen (formFault b)) (andThen-assoc (missingFault (bookParameters b)) _ _) ∙ andThen-assoc (formFault b) _ _
+unfolding firstFault
+first-stated b = refl
 
 -- where it passed, the form did
 pub stated-form : (b : List ℕ) → statedFault b ≡ Passed → formFault b ≡ Passed
@@ -66,17 +60,12 @@ stated-length b e = stated-form-refused b (form-length b e)
 -- ---- the form passed
 
 module _ (b : List ℕ) (formed : formFault b ≡ Passed) where
+  -- the parameters decide, by 4 and then 5
   pub stated-formed : statedFault b ≡ andThen (missingFault (bookParameters b)) (rangeFault (bookParameters b))
   unfolding statedFault
   stated-formed = andThen-next (formFault b) _ formed
 
-  -- the parameters decide, by 4 and then 5, and then the rows
-  pub first-formed : firstFault b
-      ≡ andThen (andThen (missingFault (bookParameters b)) (rangeFault (bookParameters b))) (rowsFault true (bookOffer b) (offerCount b))
-  unfolding firstFault
-  first-formed = andThen-next (formFault b) _ formed ∙ andThen-assoc (missingFault (bookParameters b)) _ _
-
-  -- of soundness by 5 alone
+  -- of soundness 5 alone decides, and then the rows
   pub sound-formed : soundFault b ≡ andThen (rangeFault (bookParameters b)) (rowsFault false (bookOffer b) (offerCount b))
   unfolding soundFault
   sound-formed = andThen-next (formFault b) _ formed

@@ -19,13 +19,13 @@ use Rattle.values.specs.declared.Verdict.the-variants.{Passed, Refused}
 use Rattle.values.specs.declared.place.Offer.{Offer}
 use Rattle.values.proofs.Firsts.{first-zero, first-on, first-refused}
 use Rattle.limits.specs.Repeats.{firstRepeat}
-use Rattle.limits.specs.Offers.{offerFault, rowsFault}
+use Rattle.limits.specs.Offers.{offerFault}
 use Rattle.limits.specs.Rows.{valuesFault, rowsBefore, withRepeats}
 use Rattle.limits.proofs.Rows.{rowsFault-passes}
 use Rattle.limits.proofs.Tested.{offerFault-row}
 use Rattle.layout.specs.Read.{bookOffer}
 use Rattle.columns.specs.Column.{resourceOf}
-use Rattle.columns.specs.Columns.{Columns, ColumnsRead}
+use Rattle.columns.specs.Columns.{Columns}
 use Rattle.columns.proofs.Turns.{stored, columns-none, columns-more, columns-all}
 use Rattle.book.specs.Rows.{rowsTested, ValuesRead, RowsRead}
 

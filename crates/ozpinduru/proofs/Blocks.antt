@@ -3,7 +3,6 @@
 -- In order: books that differ in minimum blocks alone; they make the same auction; so they clear the same at the same price.
 -- Assumes nothing.
 use mathlib.Core.Path.{_≡_, ap, sym, fun-ext, _∙_}
-use mathlib.Core.Bool.{cond}
 use mathlib.Core.List.{List}
 use Prim.Native.Nat.{ℕ, _<_}
 use lib.Dec.{ltb}

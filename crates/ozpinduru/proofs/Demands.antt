@@ -8,7 +8,6 @@ use mathlib.Core.Path.{_≡_, ap, _∙_}
 use mathlib.Core.List.{List}
 use Prim.Native.Nat.{ℕ, _<_}
 use lib.ListN.{getD}
-use Rattle.laws.specs.Sum.{sumTo}
 use Rattle.laws.proofs.Sums.{sumTo-ext}
 use Rattle.auction.specs.Offers.{Offers, Demand}
 use Rattle.auction.specs.Clearing.{clearedTotal, clearingPrice}

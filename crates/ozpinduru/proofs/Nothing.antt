@@ -5,7 +5,6 @@ use mathlib.Core.List.{List}
 use mathlib.Core.Option.{none}
 use Prim.Native.Nat.{ℕ, _*_}
 use native.Mathlib.Nat.{mul-zero}
-use native.Mathlib.Omega.{arith}
 use Rattle.laws.proofs.Sums.{sumTo-none}
 use Rattle.auction.specs.Settlement.{daysOf}
 use Rattle.auction.proofs.Price.{price-none}

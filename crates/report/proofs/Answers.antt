@@ -3,10 +3,9 @@
 -- In order: buffers of 600 entries are never too short; a clearing was answered for an accepted book, and its lines are the
 -- book's; a refusal's line is the book's.
 -- Assumes nothing.
-use mathlib.Core.Path.{_≡_, refl, sym, ap, ap₂, subst, _∙_}
+use mathlib.Core.Path.{_≡_, sym, ap, ap₂, subst, _∙_}
 use mathlib.Core.List.{List, _++_}
 use Prim.Native.Nat.{ℕ, _-_, _≤_, _<_}
-use native.Mathlib.Omega.{arith}
 use lib.ListN.{length, getD}
 use Rattle.auction.specs.Settlement.{mills}
 use Rattle.values.specs.declared.Verdict.{Verdict}
@@ -14,10 +13,9 @@ use Rattle.values.specs.declared.Verdict.the-variants.{Passed, Refused}
 use Rattle.layout.specs.Form.{offerCount}
 use Rattle.layout.specs.Read.{bookParameters, bookOffer}
 use Rattle.book.specs.Faults.{firstFault}
-use Rattle.book.proofs.Accepted.{accepted-inside}
 use Rattle.sale.specs.Auction.{total, price, rowCleared, rowCommitted, rowMakeWhole, dailyTotal, yearTotal}
 use Rattle.sale.specs.Payment.{clearingOf}
-use Rattle.ozpinduru.specs.Answer.{Outcome, callFault}
+use Rattle.ozpinduru.specs.Answer.{Outcome}
 use Rattle.sale.specs.declared.Clearing.{Clearing}
 use Rattle.ozpinduru.specs.declared.Answer.{Answer}
 use Rattle.ozpinduru.specs.declared.Answer.the-variants.{Cleared as Answer·Cleared, Refused as Answer·Refused}

@@ -3,7 +3,7 @@
 -- In order: nothing where nothing cleared, the larger of both elsewhere; what an offer commits by its minimum block is what it
 -- commits by its least; mills of a sum are the sum of mills.
 -- Assumes nothing.
-use mathlib.Core.Path.{_≡_, refl, sym, _∙_}
+use mathlib.Core.Path.{_≡_, refl, _∙_}
 use mathlib.Core.Option.{Option, none, some}
 use Prim.Native.Nat.{ℕ, max}
 use native.Mathlib.Omega.{arith}

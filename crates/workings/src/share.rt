@@ -4,8 +4,6 @@ use market::supply::supply_at;
 ghost use mathlib.Core.Path.{_≡_};
 ghost use Prim.Native.Nat.{ℕ, _-_, _<_, min};
 ghost use lib.ListN.{getD};
-ghost use Rattle.auction.specs.Offers.{levelSum};
-ghost use Rattle.auction.specs.Shares.{levelAmount};
 ghost use Rattle.market.specs.Rows.{Rows, listed};
 ghost use Rattle.workings.specs.Share.{LevelAt, shareAt, rowShareAt};
 

@@ -8,8 +8,6 @@ use units::CentsPerMwDay;
 ghost use mathlib.Core.Path.{_≡_};
 ghost use Prim.Native.Nat.{_≤_};
 ghost use Rattle.curve.specs.Shape.{Shaped};
-ghost use Rattle.curve.specs.Price.{demandOf};
-ghost use Rattle.auction.specs.Clearing.{clearedTotal};
 ghost use Rattle.market.specs.Rows.{Rows, listed};
 ghost use Rattle.workings.specs.Stop.{tenthAt, nextAt, stopAt};
 

@@ -1,6 +1,5 @@
 -- `terms_of` meets its contract, field by field.
 -- Assumes nothing.
-use native.Mathlib.Omega.{arith}
 use borrow.Author.Needs.{needs}
 use Rattle.sale.proofs.terms_of.Statement.{statement}
 use Rattle.sale.proofs.terms_of.Tie as tie

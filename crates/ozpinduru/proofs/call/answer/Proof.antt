@@ -1,6 +1,6 @@
 -- `answer` is what `clear` answers into buffers that are long enough for any book.
 -- Assumes nothing.
-use mathlib.Core.Path.{_≡_, sym, _∙_}
+use mathlib.Core.Path.{sym, _∙_}
 use native.Mathlib.Omega.{arith}
 use borrow.Author.Needs.{needs}
 use Rattle.laws.proofs.Filling.{length-zeros}

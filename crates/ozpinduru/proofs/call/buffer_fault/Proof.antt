@@ -1,7 +1,6 @@
 -- `buffer_fault` is 9 at the buffer that is too short.
 -- Assumes nothing.
 use mathlib.Core.Path.{sym, _∙_}
-use native.Mathlib.Omega.{arith}
 use borrow.Author.Tests.{le-leb, lt-leb}
 use Rattle.values.proofs.Firsts.{andThen-next, andThen-refused, unless-true, unless-false}
 use Rattle.ozpinduru.specs.Answer.{bufferFault}

@@ -1,6 +1,6 @@
 -- `clear` answers every string of bytes.
 -- Assumes nothing.
-use mathlib.Core.Path.{_≡_, refl, sym, _∙_}
+use mathlib.Core.Path.{refl, sym, _∙_}
 use borrow.Author.Needs.{needs}
 use Rattle.book.proofs.Stages.{stated-length}
 use Rattle.ozpinduru.proofs.Calls.{fault-stated, outcome-refused}

@@ -1,6 +1,6 @@
 -- `clear_measured` hands on the first fault before the rows, and else what the rows clear.
 -- Assumes nothing.
-use mathlib.Core.Path.{_≡_, sym, _∙_}
+use mathlib.Core.Path.{sym, _∙_}
 use borrow.Author.Needs.{needs}
 use Rattle.ozpinduru.proofs.Calls.{fault-stated, outcome-refused}
 use Rattle.ozpinduru.proofs.call.clear_measured.Statement.{statement}

@@ -3,7 +3,6 @@
 use mathlib.Core.Path.{refl}
 use Rattle.auction.specs.Settlement.{daysOf}
 use native.Mathlib.Omega.{arith}
-use borrow.Author.Needs.{needs}
 use Rattle.sale.proofs.payment.days_of.Statement.{statement}
 use Rattle.sale.proofs.payment.days_of.Tie as tie
 
