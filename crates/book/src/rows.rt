@@ -1,5 +1,5 @@
 // The rows of a book: read once into columns, with their values' faults and a repeated resource among those before.
-use layout::reader::row_of;
+use layout::reader::row_bytes;
 use limits::offers::offer_fault;
 use limits::repeats::with_repeats;
 use values::Verdict;
@@ -30,7 +30,7 @@ fn values_fault(
     let mut row: u32 = 0;
     while row < n {
         let at = row as usize;
-        let o = offer_in(row_of(book, at));
+        let o = offer_in(row_bytes(book, at));
         let price = o.price;
         let block = o.block;
         prices[at] = number_held(price);

@@ -8,13 +8,13 @@ use Rattle.laws.proofs.Fills.{filled-none, filled-more}
 use Rattle.values.specs.Values.{held, leastOf}
 use Rattle.values.specs.Place.{offerOf}
 use Rattle.values.specs.declared.place.Offer.{Offer}
-use Rattle.layout.specs.Blocks.{rowOf}
+use Rattle.layout.specs.Blocks.{rowBytes}
 use Rattle.layout.specs.Read.{bookOffer}
 use Rattle.columns.specs.Column.{priceOf, quantityOf, leastsOf, resourceOf}
 use Rattle.columns.specs.Columns.{Columns, columnsOf, ColumnsRead}
 
 -- what a row's own bytes hold is the row's offer
-pub offer-of-row : (b : List ℕ) (row : ℕ) {part : List ℕ} {o : Offer} → part ≡ rowOf b row → o ≡ offerOf part
+pub offer-of-row : (b : List ℕ) (row : ℕ) {part : List ℕ} {o : Offer} → part ≡ rowBytes b row → o ≡ offerOf part
     → o ≡ bookOffer b row
 unfolding bookOffer
 offer-of-row b row p e = rw (e, p)

@@ -1,6 +1,6 @@
 // The rows of a book in columns: what the lists hold of each row, and the time stamps, which are read only where tied offers
 // contend for spare tenths.
-use layout::reader::row_of;
+use layout::reader::row_bytes;
 use values::place::offer_in;
 ghost use mathlib.Core.Path.{_≡_};
 ghost use Prim.Native.Nat.{_≤_};
@@ -19,7 +19,7 @@ pub fn read_stamps(book: &[u8], n: usize, highs: &mut [u32], lows: &mut [u32])
     ensures { λ _. ⌜ now (lows .exit) ≡ filled (lowOf (now (book .entry))) n (now (lows .entry)) ⌝ }
 {
     for row in 0..n {
-        let offer = offer_in(row_of(book, row));
+        let offer = offer_in(row_bytes(book, row));
         highs[row] = (offer.stamp / HALF) as u32;
         lows[row] = (offer.stamp % HALF) as u32;
     }

@@ -5,9 +5,9 @@ mod refused;
 
 use accepted::explain_market;
 use accepted::explain_rows;
+use call::Answer;
+use call::clear;
 use libc::STDIN_FILENO;
-use ozpinduru::Answer;
-use ozpinduru::call::clear;
 use page::stated::say_stated;
 use page::totals::say_totals;
 use refused::explain_refusal;

@@ -9,9 +9,9 @@ use lib.Dec.{eqb}
 use Rattle.block.specs.Bytes.{u32At}
 use Rattle.values.specs.Values.{absentIsZero}
 use Rattle.values.specs.declared.Verdict.{Verdict}
-use Rattle.layout.specs.Blocks.{rowOf}
+use Rattle.layout.specs.Blocks.{rowBytes}
 use Rattle.layout.specs.Layout.{headHolds, rowsHere, rowsHold}
-use Rattle.layout.specs.Form.{offerCount, formFault, rowPart}
+use Rattle.layout.specs.Form.{offerCount, formFault, ownBytes}
 
 -- two answers that both are what is defined
 same-answer : {X : Type 0} {defined r s : X} → r ≡ defined → s ≡ defined → r ≡ s
@@ -22,12 +22,12 @@ pub form-decided : (book : List ℕ) (r s : Verdict) → r ≡ formFault book �
 form-decided book r s = same-answer
 
 -- `own_bytes` of a book and a row
-pub own-bytes-decided : (book : List ℕ) (row : ℕ) (r s : List ℕ) → r ≡ rowPart book row → s ≡ rowPart book row → r ≡ s
+pub own-bytes-decided : (book : List ℕ) (row : ℕ) (r s : List ℕ) → r ≡ ownBytes book row → s ≡ ownBytes book row → r ≡ s
 own-bytes-decided book row r s = same-answer
 
--- `row_of` a book and a row
-pub row-of-decided : (book : List ℕ) (row : ℕ) (r s : List ℕ) → r ≡ rowOf book row → s ≡ rowOf book row → r ≡ s
-row-of-decided book row r s = same-answer
+-- `row_bytes` a book and a row
+pub row-bytes-decided : (book : List ℕ) (row : ℕ) (r s : List ℕ) → r ≡ rowBytes book row → s ≡ rowBytes book row → r ≡ s
+row-bytes-decided book row r s = same-answer
 
 -- `offer_count` of a book
 pub offer-count-decided : (book : List ℕ) (r s : ℕ) → r ≡ offerCount book → s ≡ offerCount book → r ≡ s

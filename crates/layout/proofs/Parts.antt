@@ -9,7 +9,7 @@ use Prim.Native.Nat.{ℕ, _+_, _-_, _*_, _/_, _%_, _≤_, _<_}
 use native.Mathlib.Nat.{add-sub-cancel-left}
 use native.Mathlib.Omega.{arith}
 use lib.ListN.{length, take, drop, length-take, length-drop}
-use Rattle.layout.specs.Blocks.{blockOf, placeOf, rowOf}
+use Rattle.layout.specs.Blocks.{blockOf, placeOf, rowBytes}
 
 -- a part of n bytes, from a start to an end
 pub part-from : (s : List ℕ) (at n : ℕ) → take (at + n - at) (drop at s) ≡ take n (drop at s)
@@ -29,8 +29,8 @@ place-part s i = part-from s (28 + i * 32) 32
 pub row-part : (b : List ℕ) (row : ℕ) →
     let from = (1 + row / 15) * 512 in
     let at = 28 + row % 15 * 32 in
-    take (at + 32 - at) (drop at (take (from + 512 - from) (drop from b))) ≡ rowOf b row
-unfolding rowOf
+    take (at + 32 - at) (drop at (take (from + 512 - from) (drop from b))) ≡ rowBytes b row
+unfolding rowBytes
 row-part b row =
     place-part _ (row % 15) ∙ ap (λ (s : List ℕ). placeOf s (row % 15)) (block-part b (1 + row / 15))
 
@@ -48,8 +48,8 @@ unfolding placeOf
 place-length s i h l = part-length s (28 + i * 32) 32 (omega arith)
 
 -- a row whose block is inside the book has 32 bytes
-pub row-length : (b : List ℕ) (row : ℕ) → (1 + row / 15) * 512 + 512 ≤ length b → length (rowOf b row) ≡ 32
-unfolding rowOf
+pub row-length : (b : List ℕ) (row : ℕ) → (1 + row / 15) * 512 + 512 ≤ length b → length (rowBytes b row) ≡ 32
+unfolding rowBytes
 row-length b row h =
     place-length (blockOf b (1 + row / 15)) (row % 15)
     (omega (arith, block-length b (1 + row / 15) h))

@@ -13,7 +13,7 @@ use lib.ListN.{length}
 use Rattle.values.specs.Refusals.{unless, andThen, wrongLayout}
 use Rattle.values.specs.declared.Verdict.the-variants.{Passed}
 use Rattle.values.proofs.Firsts.{unless-passed, andThen-left, andThen-right, first-at}
-use Rattle.layout.specs.Blocks.{blockCount, blockOf, rowOf}
+use Rattle.layout.specs.Blocks.{blockCount, blockOf, rowBytes}
 use Rattle.layout.specs.Layout.{blocksFor, headHolds, usedHolds, rowsHere, rowsHold, ofrs}
 use Rattle.layout.specs.Form.{lengthFault, checkFault, offerCount, offerBlockFault, layoutFault, formFault}
 use Rattle.layout.proofs.Holding.{LengthHolds, length-holds, CountHolds, head-holds, rows-hold-used}
@@ -62,8 +62,8 @@ module _ (b : List ℕ) (passed : formFault b ≡ Passed) where
   form-passed-row row l = omega (arith, form-passed-blocks)
 
   -- each row's own bytes are laid out as a used place
-  pub form-passed-used : (row : ℕ) → row < offerCount b → usedHolds (rowOf b row) ≡ true
-  unfolding rowOf
+  pub form-passed-used : (row : ℕ) → row < offerCount b → usedHolds (rowBytes b row) ≡ true
+  unfolding rowBytes
   form-passed-used row l =
       let before : row / 15 < blockCount b - 1 = omega (arith, count-part) in
       let here : row % 15 < rowsHere (offerCount b) (row / 15 + 1) = omega arith in

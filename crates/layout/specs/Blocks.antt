@@ -17,5 +17,5 @@ unfoldable pub placeOf : List ℕ → ℕ → List ℕ
 placeOf s i = take 32 (drop (28 + i * 32) s)
 
 -- a row's own 32 bytes, by block and place
-unfoldable pub rowOf : List ℕ → ℕ → List ℕ
-rowOf b row = placeOf (blockOf b (1 + row / 15)) (row % 15)
+unfoldable pub rowBytes : List ℕ → ℕ → List ℕ
+rowBytes b row = placeOf (blockOf b (1 + row / 15)) (row % 15)

@@ -10,7 +10,7 @@ use Rattle.values.specs.Head.{offersIn}
 use Rattle.values.specs.Refusals.{wrongLength, wrongCheck, wrongLayout, unless, andThen, first}
 use Rattle.values.specs.declared.Verdict.{Verdict}
 use Rattle.values.specs.declared.Verdict.the-variants.{Passed, Refused}
-use Rattle.layout.specs.Blocks.{blockCount, blockOf, rowOf}
+use Rattle.layout.specs.Blocks.{blockCount, blockOf, rowBytes}
 use Rattle.layout.specs.Layout.{headHolds, rowsHold, rowsHere, ofrs}
 
 -- 1: the length
@@ -45,5 +45,5 @@ handedBack Passed part = part
 handedBack (Refused number place) part = []
 
 -- an offer's own 32 bytes; for a row that isn't there, or a book refused by 1 to 3, an empty part
-unfoldable pub rowPart : List ℕ → ℕ → List ℕ
-rowPart b row = handedBack (formFault b) (cond (ltb row (offerCount b)) (rowOf b row) [])
+unfoldable pub ownBytes : List ℕ → ℕ → List ℕ
+ownBytes b row = handedBack (formFault b) (cond (ltb row (offerCount b)) (rowBytes b row) [])

@@ -7,7 +7,7 @@ use Rattle.values.specs.Head.{parametersOf}
 use Rattle.values.specs.Place.{offerOf}
 use Rattle.values.specs.declared.head.Parameters.{Parameters}
 use Rattle.values.specs.declared.place.Offer.{Offer}
-use Rattle.layout.specs.Blocks.{blockOf, rowOf}
+use Rattle.layout.specs.Blocks.{blockOf, rowBytes}
 
 -- the parameters of a book
 unfoldable pub bookParameters : List ℕ → Parameters
@@ -15,7 +15,7 @@ bookParameters b = parametersOf (blockOf b 0)
 
 -- the offer of a row of a book
 unfoldable pub bookOffer : List ℕ → ℕ → Offer
-bookOffer b row = offerOf (rowOf b row)
+bookOffer b row = offerOf (rowBytes b row)
 
 -- there are at most 600 rows, and the block of each lies within the book
 pub record Inside (b : List ℕ) (n : ℕ) : Type 0 where

@@ -9,8 +9,8 @@ use values::head::offers_in;
 ghost use mathlib.Core.Path.{_≡_};
 ghost use Prim.Native.Nat.{_+_, _*_, _/_, _≤_, _<_};
 ghost use lib.ListN.{length};
-ghost use Rattle.layout.specs.Blocks.{rowOf};
-ghost use Rattle.layout.specs.Form.{offerCount, rowPart};
+ghost use Rattle.layout.specs.Blocks.{rowBytes};
+ghost use Rattle.layout.specs.Form.{offerCount, ownBytes};
 
 // The number of offers that a book states.
 pub fn offer_count(book: &[u8]) -> u32
@@ -21,9 +21,9 @@ pub fn offer_count(book: &[u8]) -> u32
 }
 
 // A row's own bytes, chosen by block and place, in a book that has the row's block.
-pub fn row_of(book: &[u8], row: usize) -> &[u8]
+pub fn row_bytes(book: &[u8], row: usize) -> &[u8]
     requires { ⌜ (1 + row / 15) * 512 + 512 ≤ length (now book) ⌝ }
-    ensures { λ r. ⌜ (now r ≡ rowOf (now (book .entry)) row) × (length (now r) ≡ 32) ⌝ }
+    ensures { λ r. ⌜ (now r ≡ rowBytes (now (book .entry)) row) × (length (now r) ≡ 32) ⌝ }
 {
     let from = (1 + row / PLACES) * SIZE;
     let block = &book[from..from + SIZE];
@@ -33,13 +33,13 @@ pub fn row_of(book: &[u8], row: usize) -> &[u8]
 
 // An offer's own bytes; for a row that isn't there, or a book refused by 1 to 3, an empty part.
 pub fn own_bytes(book: &[u8], row: usize) -> &[u8]
-    ensures { λ r. ⌜ now r ≡ rowPart (now (book .entry)) row ⌝ }
+    ensures { λ r. ⌜ now r ≡ ownBytes (now (book .entry)) row ⌝ }
 {
     if let Verdict::Refused(_, _) = form(book) {
         return &book[0..0];
     }
     if row < offer_count(book) as usize {
-        row_of(book, row)
+        row_bytes(book, row)
     } else {
         &book[0..0]
     }

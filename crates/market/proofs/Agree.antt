@@ -23,7 +23,7 @@ use Rattle.curve.specs.Price.{demandOf, tenthPrice}
 use Rattle.curve.specs.declared.Curve.{Curve}
 use Rattle.market.specs.Stop.{stopLevel, StopsAt}
 use Rattle.market.specs.Price.{asPrice, levelPrice, priceAt}
-use Rattle.market.specs.declared.margin.Level.{Level}
+use Rattle.market.specs.declared.level.Level.{Level}
 use Rattle.market.specs.declared.price.ClearingPrice.the-variants.{NoPrice}
 use Rattle.market.proofs.Stops.{stops, stop-below}
 

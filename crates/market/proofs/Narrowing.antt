@@ -20,7 +20,7 @@ use Rattle.curve.specs.Price.{tenthPrice}
 use Rattle.curve.specs.declared.Curve.{Curve}
 use Rattle.market.specs.Rows.{listed}
 use Rattle.market.specs.Bracket.{Under, NoneBefore, Reaches}
-use Rattle.market.specs.declared.bracket.Bracket.{Bracket}
+use Rattle.market.specs.declared.bracket.PriceBracket.{PriceBracket}
 
 -- below the price 0 nothing is offered, and nothing can be supplied
 pub under-whole : (c : Curve) (o : Offers) (cap over : ℕ) → cap ≤ 1000000
@@ -40,7 +40,7 @@ pub supplied-at : (c : Curve) (o : Offers) (price s : ℕ) → s ≤ supply o pr
 supplied-at c o price s l h = le-trans l (supply-mono o price (tenthPrice c s) h)
 
 -- over a price at which all that is offered can be supplied
-pub under-over : (c : Curve) (o : Offers) (b : Bracket) (price s : ℕ) → b .cap ≤ 1000000 → price < 1000000
+pub under-over : (c : Curve) (o : Offers) (b : PriceBracket) (price s : ℕ) → b .cap ≤ 1000000 → price < 1000000
     → s ≡ supply o price → s ≤ c .q3 → s ≤ supply o (tenthPrice c s)
     → Under c o (record { from = price + 1; below = s; cap = b .cap; over = b .over })
 under-over c o b price s h l e w m =
@@ -58,7 +58,7 @@ below-clear o from to l none = sumWhere-same _ _ (o .quantity) (o .count) same
         (λ k. le-ltb _ to (none i h k) ∙ sym (le-ltb _ from k))
         (λ k. lt-ltb _ to (omega arith) ∙ sym (lt-ltb _ from k))
 
-pub below-next : (c : Curve) (prices quantities : List ℕ) (n : ℕ) (b : Bracket) (next : ℕ)
+pub below-next : (c : Curve) (prices quantities : List ℕ) (n : ℕ) (b : PriceBracket) (next : ℕ)
     → Under c (listed prices quantities n) b → NoneBefore prices n (b .from) next
     → supplyBelow (listed prices quantities n) next ≡ b .below
 below-next c prices quantities n b next u m =

@@ -22,9 +22,9 @@ use Rattle.curve.specs.Price.{tenthPrice, demandOf}
 use Rattle.curve.specs.declared.Curve.{Curve}
 use Rattle.curve.proofs.Prices.{curve-falls, price-most}
 use Rattle.market.specs.Bracket.{Under, Reaches}
-use Rattle.market.specs.Stop.{StopsAt, Parted}
-use Rattle.market.specs.declared.bracket.Bracket.{Bracket}
-use Rattle.market.specs.declared.margin.Level.{Level}
+use Rattle.market.specs.Stop.{StopsAt, LevelBetween}
+use Rattle.market.specs.declared.bracket.PriceBracket.{PriceBracket}
+use Rattle.market.specs.declared.level.Level.{Level}
 use Rattle.market.proofs.Narrowing.{supplied-at, under-over}
 use Rattle.market.proofs.Stops.{stop-found}
 
@@ -40,7 +40,7 @@ total-found d o falling x within supplied past =
 pub below-upto : (o : Offers) (price below reach : ℕ) → supplyBelow o price ≡ below → reach ≡ supply o price → below ≤ reach
 below-upto o price below reach e f = omega (arith, supplyBelow-supply o price)
 
-module _ (c : Curve) (o : Offers) (s : Shaped c) (b : Bracket) (u : Under c o b) (price reach x : ℕ)
+module _ (c : Curve) (o : Offers) (s : Shaped c) (b : PriceBracket) (u : Under c o b) (price reach x : ℕ)
     (below : supplyBelow o price ≡ b .below) (upto : reach ≡ supply o price)
     (r : Reaches c price (b .below) (min reach (c .q3)) x x) where
   reached-supplied : x ≤ supply o (tenthPrice c x)
@@ -69,7 +69,7 @@ module _ (c : Curve) (o : Offers) (s : Shaped c) (b : Bracket) (u : Under c o b)
     reached-total =
         total-found (demandOf c) o (curve-falls c s) x (omega (arith, r .end)) reached-supplied past-reached
 
-    pub reached-stops : (l : Level) → Parted x price (b .below) reach l → StopsAt o (clearedTotal (demandOf c) o) l
+    pub reached-stops : (l : Level) → LevelBetween x price (b .below) reach l → StopsAt o (clearedTotal (demandOf c) o) l
     unfolding levelAmount
     reached-stops l p =
         subst (λ (k : ℕ). StopsAt o k l) reached-total

@@ -7,10 +7,10 @@ use lib.ListN.{getD}
 use Rattle.auction.specs.Offers.{Offers, supply, supplyBelow}
 use Rattle.curve.specs.Price.{tenthPrice}
 use Rattle.curve.specs.declared.Curve.{Curve}
-use Rattle.market.specs.declared.bracket.Bracket.{Bracket}
+use Rattle.market.specs.declared.bracket.PriceBracket.{PriceBracket}
 
 -- the total is no less than what is offered strictly below the bracket
-pub record Under (c : Curve) (o : Offers) (b : Bracket) : Type 0 where
+pub record Under (c : Curve) (o : Offers) (b : PriceBracket) : Type 0 where
   pub low : b .from ≤ 1000000
   pub high : b .cap ≤ 1000000
   pub below : b .below ≡ supplyBelow o (b .from)
@@ -20,7 +20,7 @@ pub record Under (c : Curve) (o : Offers) (b : Bracket) : Type 0 where
   pub supplied : b .below ≤ supply o (tenthPrice c (b .below))
 
 -- a bracket inside another
-pub record Narrower (old new : Bracket) : Type 0 where
+pub record Narrower (old new : PriceBracket) : Type 0 where
   pub from : old .from ≤ new .from
   pub ordered : new .from ≤ new .cap
   pub less : new .cap - new .from < old .cap - old .from

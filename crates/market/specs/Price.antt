@@ -7,7 +7,7 @@ use lib.Dec.{eqb, ltb}
 use Rattle.laws.specs.Largest.{lesser}
 use Rattle.curve.specs.Price.{tenthPrice}
 use Rattle.curve.specs.declared.Curve.{Curve}
-use Rattle.market.specs.declared.margin.Level.{Level}
+use Rattle.market.specs.declared.level.Level.{Level}
 use Rattle.market.specs.declared.price.ClearingPrice.{ClearingPrice}
 use Rattle.market.specs.declared.price.ClearingPrice.the-variants.{Price, NoPrice}
 

@@ -8,7 +8,7 @@ use Rattle.auction.specs.Offers.{Offers}
 
 -- n rows in two lists: both are long enough, there are at most 600, no quantity is over 200,000 and
 -- no price over 1,000,000
-pub record Rows (prices quantities : List ℕ) (n : ℕ) : Type 0 where
+pub record RowLists (prices quantities : List ℕ) (n : ℕ) : Type 0 where
   pub priced : n ≤ length prices
   pub sized : n ≤ length quantities
   pub few : n ≤ 600

@@ -6,7 +6,7 @@ use lib.Dec.{leb}
 use Rattle.laws.specs.Largest.{largest}
 use Rattle.auction.specs.Offers.{Offers, supply, supplyBelow, levelSum}
 use Rattle.auction.specs.Shares.{levelAmount}
-use Rattle.market.specs.declared.margin.Level.{Level}
+use Rattle.market.specs.declared.level.Level.{Level}
 
 -- the highest price up to 1,000,000 such that what is offered strictly below it is at most x
 unfoldable pub stopLevel : Offers → ℕ → ℕ
@@ -24,7 +24,7 @@ pub record StopsAt (o : Offers) (x : ℕ) (l : Level) : Type 0 where
   pub reach : l .reach ≡ supply o (l .price)
 
 -- a level at the price p at which the total x stops, where `below` is offered strictly below p, and `upTo` at p or below
-pub record Parted (x p below upTo : ℕ) (l : Level) : Type 0 where
+pub record LevelBetween (x p below upTo : ℕ) (l : Level) : Type 0 where
   pub total : l .total ≡ x
   pub price : l .price ≡ p
   pub amount : l .amount ≡ min (x - below) (upTo - below)

@@ -1,5 +1,5 @@
 // Where to look next for the price at which the total stops. All of it is guesses: any price inside a bracket would do.
-use crate::bracket::Bracket;
+use crate::bracket::PriceBracket;
 use curve::Curve;
 ghost use Prim.Native.Nat.{_≤_, _<_};
 ghost use Rattle.curve.specs.Shape.{Shaped};
@@ -40,7 +40,7 @@ fn lacking(has: u32, wants: u32) -> u32
 }
 
 // A price inside a bracket: its middle, or where offers and curve would meet if both ran straight from end to end.
-pub(crate) fn aim(c: Curve, b: Bracket, middle: bool) -> u32
+pub(crate) fn aim(c: Curve, b: PriceBracket, middle: bool) -> u32
     requires { ⌜ Shaped c × (b .from < b .cap) × (b .cap ≤ 1000000) ⌝ }
     ensures { λ r. ⌜ (b .from ≤ r) × (r < b .cap) ⌝ }
 {
@@ -60,7 +60,7 @@ pub(crate) fn aim(c: Curve, b: Bracket, middle: bool) -> u32
 
 // The total stops close over the bracket's lower end: no more than a few tenths are offered between both ends, or are short of
 // what the curve buys at the lower one.
-pub(crate) fn close(c: Curve, b: Bracket, few: u32) -> bool
+pub(crate) fn close(c: Curve, b: PriceBracket, few: u32) -> bool
     requires { ⌜ Shaped c ⌝ }
 {
     lacking(b.below, b.over) <= few || lacking(b.below, tenths_at(c, b.from)) <= few

@@ -9,12 +9,12 @@ ghost use mathlib.Core.Bool.{true};
 ghost use Prim.Native.Nat.{_≤_, _<_};
 ghost use Rattle.curve.specs.Shape.{Shaped};
 ghost use Rattle.curve.specs.Price.{tenthPrice};
-ghost use Rattle.market.specs.Rows.{Rows, listed};
+ghost use Rattle.market.specs.Rows.{RowLists, listed};
 ghost use Rattle.market.specs.Bracket.{Under, Narrower};
 
 // A price, with what is offered strictly below it, all of which clears; and a price from which the curve does not buy all that
 // is offered, with how much that is.
-pub struct Bracket {
+pub struct PriceBracket {
     pub from: u32,
     pub below: u32,
     pub cap: u32,
@@ -39,23 +39,23 @@ pub(crate) fn narrowed(
     prices: &[u32],
     quantities: &[u32],
     n: usize,
-    b: Bracket,
+    b: PriceBracket,
     price: u32,
-) -> Bracket
-    requires { ⌜ Shaped c × Rows (now prices) (now quantities) n × Under c (listed (now prices) (now quantities) n) b ⌝ }
+) -> PriceBracket
+    requires { ⌜ Shaped c × RowLists (now prices) (now quantities) n × Under c (listed (now prices) (now quantities) n) b ⌝ }
     requires { ⌜ (b .from ≤ price) × (price < b .cap) ⌝ }
     ensures { λ r. ⌜ Under c (listed (now (prices .entry)) (now (quantities .entry)) n) r × Narrower b r ⌝ }
 {
     let offered = supply_at(prices, quantities, n, price);
     if bought(c, offered, price) {
-        Bracket {
+        PriceBracket {
             from: price + 1,
             below: offered,
             cap: b.cap,
             over: b.over,
         }
     } else {
-        Bracket {
+        PriceBracket {
             from: b.from,
             below: b.below,
             cap: price,
@@ -65,7 +65,7 @@ pub(crate) fn narrowed(
 }
 
 // As much is offered as before below one end and up to the other: the last price told nothing.
-fn as_before(b: Bracket, old: Bracket) -> bool {
+fn as_before(b: PriceBracket, old: PriceBracket) -> bool {
     b.below == old.below && b.over == old.over
 }
 
@@ -75,10 +75,10 @@ pub(crate) fn narrow(
     prices: &[u32],
     quantities: &[u32],
     n: usize,
-    b: Bracket,
+    b: PriceBracket,
     few: u32,
-) -> Bracket
-    requires { ⌜ Shaped c × Rows (now prices) (now quantities) n × Under c (listed (now prices) (now quantities) n) b ⌝ }
+) -> PriceBracket
+    requires { ⌜ Shaped c × RowLists (now prices) (now quantities) n × Under c (listed (now prices) (now quantities) n) b ⌝ }
     ensures { λ r. ⌜ Under c (listed (now (prices .entry)) (now (quantities .entry)) n) r × (b .from ≤ r .from) ⌝ }
 {
     let mut at = b;

@@ -1,7 +1,7 @@
 // What the rows of a book clear against the curve.
 mod aim;
 mod bracket;
-pub mod margin;
+pub mod level;
 pub mod price;
 pub mod supply;
 pub mod total;

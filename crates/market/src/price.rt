@@ -1,5 +1,5 @@
 // The clearing price, or that there is none.
-use crate::margin::Level;
+use crate::level::Level;
 use curve::Curve;
 use curve::tenth_price;
 use units::CentsPerMwDay;

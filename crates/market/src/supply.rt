@@ -6,7 +6,7 @@ ghost use Prim.Native.Nat.{min, _≤_};
 ghost use lib.Dec.{leb};
 ghost use lib.ListN.{length};
 ghost use Rattle.auction.specs.Offers.{supply};
-ghost use Rattle.market.specs.Rows.{Rows, listed};
+ghost use Rattle.market.specs.Rows.{RowLists, listed};
 ghost use Rattle.market.specs.Bracket.{NoneBefore};
 
 // A row's quantity where its price is at or below the limit, and else nothing.
@@ -18,7 +18,7 @@ fn taken(price: u32, quantity: u32, limit: u32) -> u32
 
 // Everything offered at the limit or below. The loop has no branch of its own, so that it runs in lanes.
 pub fn supply_at(prices: &[u32], quantities: &[u32], n: usize, limit: u32) -> u32
-    requires { ⌜ Rows (now prices) (now quantities) n ⌝ }
+    requires { ⌜ RowLists (now prices) (now quantities) n ⌝ }
     ensures { λ r. ⌜ (r ≡ supply (listed (now (prices .entry)) (now (quantities .entry)) n) limit) × (r ≤ 120000000) ⌝ }
 {
     let mut sum: u32 = 0;

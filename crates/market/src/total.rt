@@ -1,9 +1,9 @@
 // The cleared total, and the level at which it stops.
 use crate::aim::tenths_at;
-use crate::bracket::Bracket;
+use crate::bracket::PriceBracket;
 use crate::bracket::narrow;
 use crate::bracket::narrowed;
-use crate::margin::Level;
+use crate::level::Level;
 use crate::supply::lesser;
 use crate::supply::next_price;
 use crate::supply::supply_at;
@@ -14,8 +14,8 @@ ghost use Rattle.auction.specs.Clearing.{clearedTotal};
 ghost use Rattle.curve.specs.Shape.{Shaped};
 ghost use Rattle.curve.specs.Price.{demandOf};
 ghost use Rattle.market.specs.Bracket.{Reaches};
-ghost use Rattle.market.specs.Rows.{Rows, listed};
-ghost use Rattle.market.specs.Stop.{StopsAt, Parted};
+ghost use Rattle.market.specs.Rows.{RowLists, listed};
+ghost use Rattle.market.specs.Stop.{StopsAt, LevelBetween};
 
 // A guess, or the nearest number to it that is past `low` and not past `high`.
 fn inside(guess: u32, low: u32, high: u32) -> u32
@@ -52,7 +52,7 @@ fn reached(c: Curve, price: u32, below: u32, top: u32) -> u32
 // The level at a price, by what is offered strictly below it and what is offered at it or below.
 fn level(total: u32, price: u32, below: u32, reach: u32) -> Level
     requires { ⌜ (below ≤ total) × (below ≤ reach) ⌝ }
-    ensures { λ r. ⌜ Parted total price below reach r ⌝ }
+    ensures { λ r. ⌜ LevelBetween total price below reach r ⌝ }
 {
     Level {
         total,
@@ -67,11 +67,11 @@ fn level(total: u32, price: u32, below: u32, reach: u32) -> Level
 // tried: by what is offered below it and up to it, the curve tells whether the total stops there. The search is close when no
 // more than an average offer is short, and with each price that the total goes past, half as much.
 pub fn cleared_level(c: Curve, prices: &[u32], quantities: &[u32], n: usize) -> Level
-    requires { ⌜ Shaped c × Rows (now prices) (now quantities) n ⌝ }
+    requires { ⌜ Shaped c × RowLists (now prices) (now quantities) n ⌝ }
     ensures { λ r. ⌜ StopsAt (listed (now (prices .entry)) (now (quantities .entry)) n) (clearedTotal (demandOf c) (listed (now (prices .entry)) (now (quantities .entry)) n)) r × (r .total ≤ c .q3) ⌝ }
 {
     let p1 = c.p1;
-    let whole = Bracket {
+    let whole = PriceBracket {
         from: 0,
         below: 0,
         cap: p1.0 + 1,

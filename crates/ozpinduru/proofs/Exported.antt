@@ -13,8 +13,8 @@ use Rattle.market.specs.declared.price.ClearingPrice.the-variants.{Price, NoPri
 use Rattle.settle.specs.Read.{quoted}
 use Rattle.ozpinduru.specs.Export.{clearingKind, clearingCents, exported, exportedMakeWhole, Returned}
 use Rattle.sale.specs.declared.Clearing.{Clearing}
-use Rattle.ozpinduru.specs.declared.Answer.{Answer}
-use Rattle.ozpinduru.specs.declared.Answer.the-variants.{Cleared as Answer·Cleared, Refused as Answer·Refused}
+use Rattle.call.specs.declared.Answer.{Answer}
+use Rattle.call.specs.declared.Answer.the-variants.{Cleared as Answer·Cleared, Refused as Answer·Refused}
 use Rattle.ozpinduru.specs.declared.export.OzpAnswer.{OzpAnswer}
 
 -- the kind and the cents tell the price: no price is told by its kind, whatever stands for the cents

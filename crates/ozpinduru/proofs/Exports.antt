@@ -24,13 +24,13 @@ use Rattle.curve.specs.Price.{curvePrice}
 use Rattle.curve.specs.declared.Curve.{Curve}
 use Rattle.curve.specs.declared.CurvePrice.{CurvePrice}
 use Rattle.curve.specs.declared.Terms.{Terms}
-use Rattle.layout.specs.Form.{offerCount, formFault, rowPart}
+use Rattle.layout.specs.Form.{offerCount, formFault, ownBytes}
 use Rattle.layout.specs.Read.{bookOffer}
 use Rattle.layout.proofs.Handed.{row-part-refused, row-part-past, row-part-there, row-part-length}
 use Rattle.sale.specs.Auction.{termsOf}
-use Rattle.ozpinduru.specs.Export.{rowOf, noRow, exportedRow, exportedMakeWhole, noAmount}
-use Rattle.ozpinduru.specs.Plotted.{allGiven, pointsOf, pointsRefused, exportedCurve, priceOf, priceRefused, exportedPrice}
-use Rattle.ozpinduru.proofs.Clearables.{terms-in-range}
+use Rattle.ozpinduru.specs.Export.{exportedOffer, noRow, exportedRow, exportedMakeWhole, noAmount}
+use Rattle.ozpinduru.specs.Plotted.{allGiven, pointsOf, pointsRefused, exportedCurve, plottedPrice, priceRefused, exportedPrice}
+use Rattle.call.proofs.Clearables.{terms-in-range}
 
 -- ---- a row
 
@@ -48,19 +48,19 @@ module _ (b : List ℕ) (row : ℕ) where
   unfolding exportedRow
   shown-past e h = rw (e, le-ltb row (offerCount b) h)
 
-  shown-there : formFault b ≡ Passed → row < offerCount b → rowOf (bookOffer b row) ≡ exportedRow b row
+  shown-there : formFault b ≡ Passed → row < offerCount b → exportedOffer (bookOffer b row) ≡ exportedRow b row
   unfolding exportedRow
   shown-there e h = rw (e, lt-ltb row (offerCount b) h)
 
   -- the row is there, or nothing is handed back and no row is shown
   by-row {ℓ} : {X : Type ℓ} → (formFault b ≡ Passed → row < offerCount b → X)
-      → (rowPart b row ≡ [] → noRow ≡ exportedRow b row → X) → X
+      → (ownBytes b row ≡ [] → noRow ≡ exportedRow b row → X) → X
   by-row there gone =
       by-verdict (formFault b)
       (λ e. by-order (offerCount b) row (λ h. gone (row-part-past b row e h) (shown-past e h)) (λ l. there e l))
       (λ number place e. gone (row-part-refused b row number place e) (shown-refused number place e))
 
-  module _ (part : List ℕ) (own : part ≡ rowPart b row) where
+  module _ (part : List ℕ) (own : part ≡ ownBytes b row) where
     -- an empty part: there is no row
     pub handed-nothing : length part ≡ 0 → noRow ≡ exportedRow b row
     handed-nothing z =
@@ -72,10 +72,10 @@ module _ (b : List ℕ) (row : ℕ) where
         by-row (λ e l. omega (arith, ap length own, row-part-length b row e l)) (λ empty shown. absurd (any (ap length (own ∙ empty))))
 
     -- and its offer is the row's
-    pub handed-offer : (length part ≡ 0 → ⊥) → rowOf (offerOf part) ≡ exportedRow b row
+    pub handed-offer : (length part ≡ 0 → ⊥) → exportedOffer (offerOf part) ≡ exportedRow b row
     unfolding bookOffer
     handed-offer any =
-        by-row (λ e l. ap (λ (s : List ℕ). rowOf (offerOf s)) (own ∙ row-part-there b row e l) ∙ shown-there e l)
+        by-row (λ e l. ap (λ (s : List ℕ). exportedOffer (offerOf s)) (own ∙ row-part-there b row e l) ∙ shown-there e l)
         (λ empty shown. absurd (any (ap length (own ∙ empty))))
 
 -- ---- parameters of which every one is given
@@ -113,9 +113,9 @@ module _ (given p : Parameters) (same : p ≡ given) (v : Verdict) (found : v �
     unfolding exportedCurve
     curve-made = rw (fault passed) (ap pointsOf curve-given)
 
-    pub price-made : (k : ℕ) (q : CurvePrice) → q ≡ curvePrice c k → priceOf q ≡ exportedPrice given k
+    pub price-made : (k : ℕ) (q : CurvePrice) → q ≡ curvePrice c k → plottedPrice q ≡ exportedPrice given k
     unfolding exportedPrice
-    price-made k q e = rw (fault passed) (ap priceOf (e ∙ ap (λ (m : Curve). curvePrice m k) curve-given))
+    price-made k q e = rw (fault passed) (ap plottedPrice (e ∙ ap (λ (m : Curve). curvePrice m k) curve-given))
 
 -- ---- make-whole
 

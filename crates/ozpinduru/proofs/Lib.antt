@@ -1,9 +1,2 @@
-pub mod Clearables
-pub mod Calls
-pub mod Outcomes
-pub mod Demands
-pub mod Nothing
-pub mod Blocks
-pub mod Decided
 pub mod Exports
 pub mod Exported

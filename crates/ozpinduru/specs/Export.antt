@@ -22,9 +22,9 @@ use Rattle.market.specs.declared.price.ClearingPrice.the-variants.{Price, NoPri
 use Rattle.layout.specs.Form.{offerCount, formFault}
 use Rattle.layout.specs.Read.{bookParameters, bookOffer}
 use Rattle.sale.specs.Payment.{clearingOf}
-use Rattle.ozpinduru.specs.Answer.{Outcome, answerBy, callFault}
-use Rattle.ozpinduru.specs.declared.Answer.{Answer}
-use Rattle.ozpinduru.specs.declared.Answer.the-variants.{Cleared as Answer·Cleared, Refused as Answer·Refused}
+use Rattle.call.specs.Answer.{Outcome, answerBy, callFault}
+use Rattle.call.specs.declared.Answer.{Answer}
+use Rattle.call.specs.declared.Answer.the-variants.{Cleared as Answer·Cleared, Refused as Answer·Refused}
 use Rattle.ozpinduru.specs.declared.export.OzpAnswer.{OzpAnswer}
 use Rattle.ozpinduru.specs.declared.export.OzpRow.{OzpRow}
 
@@ -89,8 +89,8 @@ valueKind (Given number) = 1
 valueKind Missing = 2
 
 -- the values of an offer; `held` is all ones where there is none
-abbrev pub rowOf : Offer → OzpRow
-rowOf o =
+abbrev pub exportedOffer : Offer → OzpRow
+exportedOffer o =
     record {
       stamp = o .stamp;
       kind = 1;
@@ -124,7 +124,7 @@ rowBy (Refused number place) row = noRow
 
 -- the row of a book, or that it isn't there
 unfoldable pub exportedRow : List ℕ → ℕ → OzpRow
-exportedRow b row = rowBy (formFault b) (cond (ltb row (offerCount b)) (rowOf (bookOffer b row)) noRow)
+exportedRow b row = rowBy (formFault b) (cond (ltb row (offerCount b)) (exportedOffer (bookOffer b row)) noRow)
 
 -- ---- a row's make-whole
 

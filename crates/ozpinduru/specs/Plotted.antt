@@ -62,9 +62,9 @@ exportedCurve p = pointsBy (rangeFault p) (pointsOf (curve2026 (termsOf p)))
 
 -- ---- its price at a quantity
 
-abbrev pub priceOf : CurvePrice → OzpPrice
-priceOf (Price cents) = record { kind = 1; price = cents .0; number = noValue; place = noValue }
-priceOf NoPrice = record { kind = 2; price = noValue; number = noValue; place = noValue }
+abbrev pub plottedPrice : CurvePrice → OzpPrice
+plottedPrice (Price cents) = record { kind = 1; price = cents .0; number = noValue; place = noValue }
+plottedPrice NoPrice = record { kind = 2; price = noValue; number = noValue; place = noValue }
 
 abbrev pub priceRefused : ℕ → ℕ → OzpPrice
 priceRefused number place = record { kind = 3; price = noValue; number = number; place = place }
@@ -75,4 +75,4 @@ priceBy (Refused number place) price = priceRefused number place
 
 -- the price at k on the curve that parameters make, that there is none past Q3, or the refusal of the parameters
 unfoldable pub exportedPrice : Parameters → ℕ → OzpPrice
-exportedPrice p k = priceBy (rangeFault p) (priceOf (curvePrice (curve2026 (termsOf p)) k))
+exportedPrice p k = priceBy (rangeFault p) (plottedPrice (curvePrice (curve2026 (termsOf p)) k))

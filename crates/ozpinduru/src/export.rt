@@ -2,10 +2,10 @@
 //
 // No kind is 0, so that a struct of zeros is no answer: 1 says that what was asked for is there, 2 that there is none, 3 that
 // the book or the parameters are refused. A field that has no value holds all ones.
-use crate::call::answer;
-use crate::call::clear;
 use crate::plain;
 use crate::plotted;
+use call::clear;
+use call::quote;
 use curve::points_2026;
 use curve::price_at;
 use layout::reader::own_bytes;
@@ -19,7 +19,7 @@ use values::Verdict;
 use values::head::Parameters;
 use values::place::offer_in;
 ghost use mathlib.Core.Path.{_≡_};
-ghost use Rattle.ozpinduru.specs.Answer.{answerOf};
+ghost use Rattle.call.specs.Answer.{answerOf};
 ghost use Rattle.ozpinduru.specs.Export.{Returned, exported, exportedRow, exportedMakeWhole};
 ghost use Rattle.ozpinduru.specs.Plotted.{allGiven, exportedCurve, exportedPrice};
 
@@ -86,7 +86,7 @@ pub extern "C" fn ozp_clear(book: &[u8], cleared: &mut [u32], committed: &mut [u
 pub extern "C" fn ozp_quote(book: &[u8]) -> OzpAnswer
     ensures { λ r. ⌜ r ≡ exported (answerOf (now (book .entry))) ⌝ }
 {
-    plain::answer(answer(book))
+    plain::answer(quote(book))
 }
 
 // The values of a row: 2, and no values, for a row that isn't there or a book refused by 1 to 3.

@@ -1,15 +1,15 @@
 // Answers and rows as plain structs of numbers. A field that has no value holds all ones.
-use crate::Answer;
 use crate::export::OzpAnswer;
 use crate::export::OzpRow;
+use call::Answer;
 use market::price::ClearingPrice;
 use sale::Clearing;
 use values::Value;
 use values::number_held;
 use values::place::Offer;
 ghost use mathlib.Core.Path.{_≡_};
-ghost use Rattle.ozpinduru.specs.declared.Answer.the-variants.{Cleared};
-ghost use Rattle.ozpinduru.specs.Export.{clearingKind, clearingCents, exported, valueKind, rowOf, noRow};
+ghost use Rattle.call.specs.declared.Answer.the-variants.{Cleared};
+ghost use Rattle.ozpinduru.specs.Export.{clearingKind, clearingCents, exported, valueKind, exportedOffer, noRow};
 
 // All ones, in 32 bits and in 64.
 pub const NO_VALUE: u32 = 4294967295;
@@ -84,7 +84,7 @@ fn value_kind(v: Value) -> u32
 
 // The values of an offer.
 pub fn row(o: Offer) -> OzpRow
-    ensures { λ r. ⌜ r ≡ rowOf o ⌝ }
+    ensures { λ r. ⌜ r ≡ exportedOffer o ⌝ }
 {
     let price = o.price;
     let block = o.block;

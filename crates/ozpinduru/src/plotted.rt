@@ -5,7 +5,7 @@ use crate::plain::NO_VALUE;
 use curve::Curve;
 use curve::CurvePrice;
 ghost use mathlib.Core.Path.{_≡_};
-ghost use Rattle.ozpinduru.specs.Plotted.{pointsOf, pointsRefused, priceOf, priceRefused};
+ghost use Rattle.ozpinduru.specs.Plotted.{pointsOf, pointsRefused, plottedPrice, priceRefused};
 
 // The three points of a curve. The last stands at price 0.
 pub fn curve(c: Curve) -> OzpCurve
@@ -45,7 +45,7 @@ pub fn curve_refused(number: u32, place: u32) -> OzpCurve
 
 // The price of a curve at a quantity, or that there is none.
 pub fn price(p: CurvePrice) -> OzpPrice
-    ensures { λ r. ⌜ r ≡ priceOf p ⌝ }
+    ensures { λ r. ⌜ r ≡ plottedPrice p ⌝ }
 {
     match p {
         CurvePrice::Price(cents) => OzpPrice {

@@ -7,7 +7,7 @@ use mathlib.Core.Path.{_≡_, refl}
 use mathlib.Core.List.{[], _∷_}
 use mathlib.Core.Option.{none, some}
 use Rattle.curve.specs.declared.CurvePrice.the-variants.{Price}
-use Rattle.reference.specs.Book.{curveBy, prices, quantities, reference, priceAt, _at_, outcome}
+use Rattle.reference.specs.Book.{curveBy, prices, quantities, reference, examplePrice, _at_, outcome}
 
 -- P1 50,000, P2 18,750; Q1 9,900, Q2 10,150, Q3 10,450
 pub reference-prices : prices reference ≡ (50000, 18750)
@@ -17,17 +17,17 @@ pub reference-quantities : quantities reference ≡ (9900, 10150, 10450)
 reference-quantities = unfold curveBy in refl
 
 -- curve at 9,900: 50,000; at 10,000: 37,500; at 10,151: 18,687; at 10,450: 0
-pub at-first-point : priceAt 9900 ≡ Price (record { 0 = 50000 })
-at-first-point = unfold priceAt in refl
+pub at-first-point : examplePrice 9900 ≡ Price (record { 0 = 50000 })
+at-first-point = unfold examplePrice in refl
 
-pub at-requirement : priceAt 10000 ≡ Price (record { 0 = 37500 })
-at-requirement = unfold priceAt in refl
+pub at-requirement : examplePrice 10000 ≡ Price (record { 0 = 37500 })
+at-requirement = unfold examplePrice in refl
 
-pub past-second-point : priceAt 10151 ≡ Price (record { 0 = 18687 })
-past-second-point = unfold priceAt in refl
+pub past-second-point : examplePrice 10151 ≡ Price (record { 0 = 18687 })
+past-second-point = unfold examplePrice in refl
 
-pub at-last-point : priceAt 10450 ≡ Price (record { 0 = 0 })
-at-last-point = unfold priceAt in refl
+pub at-last-point : examplePrice 10450 ≡ Price (record { 0 = 0 })
+at-last-point = unfold examplePrice in refl
 
 -- E 0: P1 87,500, P2 37,500; E 146,000: P1 50,000, P2 0
 pub offset-none : prices (curveBy 146000 0 2000 10000) ≡ (87500, 37500)

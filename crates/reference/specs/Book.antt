@@ -1,6 +1,6 @@
 -- The reference book: its parameters, its curve, and what a few offers clear on it.
 --
--- `curveBy`, `priceAt` and `outcome` open with all that they are made of, so that a case of them is computed.
+-- `curveBy`, `examplePrice` and `outcome` open with all that they are made of, so that a case of them is computed.
 -- Assumes nothing.
 use Prim.Native.Nat.{ℕ, zero, suc}
 use mathlib.Core.List.{List, [], _∷_}
@@ -37,9 +37,9 @@ abbrev pub reference : Curve
 reference = curveBy 146000 73000 2000 10000
 
 -- what the reference curve says of a quantity
-unfoldable pub priceAt : ℕ → CurvePrice
+unfoldable pub examplePrice : ℕ → CurvePrice
 unfolding curveBy line tenthPrice curvePrice
-priceAt k = curvePrice reference k
+examplePrice k = curvePrice reference k
 
 -- a quantity at a price
 infix 70 _at_
@@ -47,8 +47,8 @@ abbrev pub _at_ : ℕ → ℕ → ℕ × ℕ
 quantity at price = (quantity, price)
 
 -- offers of these quantities and prices, stamps and resource numbers ascending
-abbrev pub offersOf : List (ℕ × ℕ) → Offers
-offersOf rows =
+abbrev pub exampleOffers : List (ℕ × ℕ) → Offers
+exampleOffers rows =
     record {
       count = length rows;
       price = λ i. getD rows i (0 at 0) .1;
@@ -58,14 +58,14 @@ offersOf rows =
     }
 
 -- the first n values, in a list
-abbrev pub listed : (ℕ → ℕ) → ℕ → List ℕ
-listed f zero = []
-listed f (suc n) = f 0 ∷ listed (λ i. f (suc i)) n
+abbrev pub byRow : (ℕ → ℕ) → ℕ → List ℕ
+byRow f zero = []
+byRow f (suc n) = f 0 ∷ byRow (λ i. f (suc i)) n
 
 -- the cleared total, the price or none, and what each row clears, on the reference curve
 unfoldable pub outcome : List (ℕ × ℕ) → ℕ × Option ℕ × List ℕ
 unfolding sumTo sumWhere countWhere largest leastWhere curveBy line tenthPrice supply supplyBelow levelSum
     clearedTotal nextPrice clearingPrice levelAmount weighted shareDown remainder spareTenths ahead rank cleared
 outcome rows =
-    let x = clearedTotal (demandOf reference) (offersOf rows) in
-    (x, clearingPrice (demandOf reference) (offersOf rows), listed (cleared (offersOf rows) x) (length rows))
+    let x = clearedTotal (demandOf reference) (exampleOffers rows) in
+    (x, clearingPrice (demandOf reference) (exampleOffers rows), byRow (cleared (exampleOffers rows) x) (length rows))

@@ -15,13 +15,13 @@ use Rattle.layout.specs.Read.{bookParameters, bookOffer}
 use Rattle.book.specs.Faults.{firstFault}
 use Rattle.sale.specs.Auction.{total, price, rowCleared, rowCommitted, rowMakeWhole, dailyTotal, yearTotal}
 use Rattle.sale.specs.Payment.{clearingOf}
-use Rattle.ozpinduru.specs.Answer.{Outcome}
+use Rattle.call.specs.Answer.{Outcome}
 use Rattle.sale.specs.declared.Clearing.{Clearing}
-use Rattle.ozpinduru.specs.declared.Answer.{Answer}
-use Rattle.ozpinduru.specs.declared.Answer.the-variants.{Cleared as Answer·Cleared, Refused as Answer·Refused}
-use Rattle.ozpinduru.proofs.Calls.{fault-first}
+use Rattle.call.specs.declared.Answer.{Answer}
+use Rattle.call.specs.declared.Answer.the-variants.{Cleared as Answer·Cleared, Refused as Answer·Refused}
+use Rattle.call.proofs.Calls.{fault-first}
 use Rattle.sale.proofs.Payments.{quoted-asPrice}
-use Rattle.ozpinduru.proofs.Outcomes.{cleared-accepted, cleared-clearing, cleared-row, committed-row, refused-first}
+use Rattle.call.proofs.Outcomes.{cleared-accepted, cleared-clearing, cleared-row, committed-row, refused-first}
 use Rattle.report.specs.Lines.{clearedWord, dailyWord, yearWord, lineText, priceText, refusalText, rowText}
 use Rattle.report.specs.Report.{soldText, clearingText, reportBy, reportText}
 use Rattle.report.proofs.Fitting.{rowsText-ext}

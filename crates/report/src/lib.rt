@@ -5,11 +5,11 @@ use crate::lines::put_price;
 use crate::lines::put_refusal;
 use crate::lines::put_row;
 use crate::lines::put_word;
+use call::Answer;
+use call::clear;
 use layout::reader::offer_count;
-use layout::reader::row_of;
+use layout::reader::row_bytes;
 use market::price::ClearingPrice;
-use ozpinduru::Answer;
-use ozpinduru::call::clear;
 use sale::Clearing;
 use settle::make_whole;
 use values::place::offer_in;
@@ -39,7 +39,7 @@ fn put_offer(
     requires { ⌜ at + 54 ≤ length (now out) ⌝ }
     ensures { λ r. ⌜ Fitted (now (out .entry)) at (rowText (bookOffer (now (book .entry)) row .resource) cleared committed (mills (quoted price) (committed - cleared))) (now (out .exit)) r × (r ≤ at + 54) ⌝ }
 {
-    let o = offer_in(row_of(book, row));
+    let o = offer_in(row_bytes(book, row));
     put_row(
         out,
         at,

@@ -15,10 +15,10 @@ use Rattle.curve.specs.Shape.{curve2026}
 use Rattle.curve.specs.Price.{demandOf}
 use Rattle.curve.specs.declared.Curve.{Curve}
 use Rattle.curve.specs.declared.Terms.{Terms}
-use Rattle.market.specs.Rows.{Rows, listed, rowsOf}
+use Rattle.market.specs.Rows.{RowLists, listed, rowsOf}
 use Rattle.market.specs.Stop.{StopsAt}
 use Rattle.market.specs.Price.{asPrice, priceAt}
-use Rattle.market.specs.declared.margin.Level.{Level}
+use Rattle.market.specs.declared.level.Level.{Level}
 use Rattle.market.specs.declared.price.ClearingPrice.{ClearingPrice}
 use Rattle.market.proofs.Agree.{price-agrees}
 use Rattle.shares.specs.Out.{SharedOut}
@@ -49,7 +49,7 @@ module _ (prices quantities highs lows resources : List ℕ) (n : ℕ) where
 
   -- the total, the price by the level and the amounts shared out are a sale of the columns
   pub sold-columns : (c : Curve) (x : ℕ) (l : Level) (q : ClearingPrice) (before after : List ℕ)
-      → Rows prices quantities n → x ≡ clearedTotal (demandOf c) few → StopsAt few x l → q ≡ priceAt c l
+      → RowLists prices quantities n → x ≡ clearedTotal (demandOf c) few → StopsAt few x l → q ≡ priceAt c l
       → SharedOut all (l .total) before after
       → SoldColumns c all before (record { total = x; price = q }) after
   sold-columns c x l q before after rows e s f shared =

@@ -18,7 +18,7 @@ use Rattle.laws.proofs.Cases.{by-order}
 use Rattle.auction.specs.Offers.{Offers}
 use Rattle.auction.specs.Shares.{cleared}
 use Rattle.values.specs.declared.head.Parameters.{Parameters}
-use Rattle.market.specs.Rows.{Rows, rowsOf}
+use Rattle.market.specs.Rows.{RowLists, rowsOf}
 use Rattle.shares.specs.Out.{SharedOut, Ordered}
 use Rattle.columns.specs.Column.{priceOf, quantityOf, leastsOf, highOf, lowOf, highsOf, lowsOf, resourceOf}
 use Rattle.columns.specs.Columns.{Columns, empty, ColumnsRead}
@@ -64,7 +64,7 @@ module _ (b : List ℕ) (p : Parameters) (n : ℕ) (v : Columns) (ok : Clearable
       ap (λ (xs : List ℕ). getD xs i 0) e
       ∙ getD-filled value n (zeros 600) i 0 (omega (arith, length-zeros 600, ok .inside .few)) l
 
-  pub columns-rows : Rows (v .prices) (v .quantities) n
+  pub columns-rows : RowLists (v .prices) (v .quantities) n
   columns-rows =
       record {
         priced = column-long (priceOf b) (read .price);

@@ -7,7 +7,7 @@ use shares::share_out;
 ghost use Prim.Native.Nat.{_≤_};
 ghost use lib.ListN.{length};
 ghost use Rattle.curve.specs.Shape.{Shaped};
-ghost use Rattle.market.specs.Rows.{Rows, rowsOf};
+ghost use Rattle.market.specs.Rows.{RowLists, rowsOf};
 ghost use Rattle.layout.specs.Read.{Inside};
 ghost use Rattle.columns.specs.Column.{highsOf, lowsOf};
 ghost use Rattle.shares.specs.Out.{Ordered};
@@ -30,7 +30,7 @@ pub(crate) fn sell(
     amounts: &mut [u32],
 ) -> Sale
     requires { ⌜ Shaped c × Inside (now book) n ⌝ }
-    requires { ⌜ Rows (now prices) (now quantities) n ⌝ }
+    requires { ⌜ RowLists (now prices) (now quantities) n ⌝ }
     requires { ⌜ Ordered (now quantities) (highsOf (now book) n) (lowsOf (now book) n) (now resources) n ⌝ }
     requires { ⌜ n ≤ length (now amounts) ⌝ }
     ensures { λ r. ⌜ SoldColumns c (rowsOf (now (prices .entry)) (now (quantities .entry)) (highsOf (now (book .entry)) n) (lowsOf (now (book .entry)) n) (now (resources .entry)) n) (now (amounts .entry)) r (now (amounts .exit)) ⌝ }

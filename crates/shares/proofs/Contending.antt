@@ -19,10 +19,10 @@ use Rattle.laws.proofs.Orders.{byKey, thenBy}
 use Rattle.laws.proofs.Keys.{thenBy-rest, thenBy-halves}
 use Rattle.auction.specs.Offers.{Offers}
 use Rattle.auction.specs.Shares.{weighted, shareDown, remainder, spareTenths, ahead, rank, cleared}
-use Rattle.market.specs.declared.margin.Level.{Level}
+use Rattle.market.specs.declared.level.Level.{Level}
 use Rattle.market.specs.Rows.{rowsOf}
-use Rattle.spares.specs.Contest.{wins, contenders, inOrder}
-use Rattle.spares.proofs.Winning.{wins-contenders}
+use Rattle.contest.specs.Contest.{wins, contenders, inOrder}
+use Rattle.contest.proofs.Winning.{wins-contenders}
 use Rattle.shares.specs.Parts.{keyOf, rowKey}
 use Rattle.shares.specs.Steps.{Stopped}
 use Rattle.shares.proofs.RowParts.{key-at}

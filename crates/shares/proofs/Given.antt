@@ -15,8 +15,8 @@ use Rattle.laws.proofs.Where.{sumWhere-all}
 use Rattle.auction.specs.Offers.{Offers, supply, supplyBelow, levelSum}
 use Rattle.auction.specs.Shares.{levelAmount}
 use Rattle.auction.proofs.LevelDivision.{levelAmount-most}
-use Rattle.market.specs.declared.margin.Level.{Level}
-use Rattle.market.specs.Rows.{Rows, listed, rowsOf}
+use Rattle.market.specs.declared.level.Level.{Level}
+use Rattle.market.specs.Rows.{RowLists, listed, rowsOf}
 use Rattle.market.specs.Stop.{StopsAt, stopLevel}
 use Rattle.shares.specs.Out.{Ordered}
 use Rattle.shares.specs.Steps.{Stopped, DividesRows}
@@ -27,7 +27,7 @@ pub stops-own : (o : Offers) (x : ℕ) (l : Level) → StopsAt o x l → StopsAt
 stops-own o x l s = subst (λ (y : ℕ). StopsAt o y l) (sym (s .total)) s
 
 -- what n rows offer at a price is in a book's range
-level-low : (prices quantities : List ℕ) (n p : ℕ) → Rows prices quantities n
+level-low : (prices quantities : List ℕ) (n p : ℕ) → RowLists prices quantities n
     → levelSum (listed prices quantities n) p ≤ 120000000
 unfolding levelSum
 level-low prices quantities n p r =
@@ -48,7 +48,7 @@ module _ (prices quantities highs lows resources : List ℕ) (n : ℕ) (l : Leve
   unfolding stopLevel levelAmount supply supplyBelow levelSum
   stops-rows s = record { total = s .total; price = s .price; amount = s .amount; sum = s .sum; reach = s .reach }
 
-  module _ (r : Rows prices quantities n) (o : Ordered quantities highs lows resources n)
+  module _ (r : RowLists prices quantities n) (o : Ordered quantities highs lows resources n)
       (s : StopsAt (listed prices quantities n) (l .total) l) where
     -- the rows, with their stamps and resources, are offers of which a total stops at the level
     pub rows-stopped : Stopped rows l

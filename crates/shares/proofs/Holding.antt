@@ -16,8 +16,8 @@ use Rattle.laws.proofs.Summands.{sumWhere-ext, sumWhere-mono}
 use Rattle.auction.specs.Offers.{Offers, levelSum}
 use Rattle.auction.specs.Shares.{levelAmount, shareDown, spareTenths}
 use Rattle.auction.proofs.Spares.{spares-rest}
-use Rattle.market.specs.declared.margin.Level.{Level}
-use Rattle.market.specs.Rows.{Rows, listed, rowsOf}
+use Rattle.market.specs.declared.level.Level.{Level}
+use Rattle.market.specs.Rows.{RowLists, listed, rowsOf}
 use Rattle.shares.specs.Steps.{Stopped, DividesRows, HoldsParts}
 use Rattle.shares.proofs.RowParts.{part-most}
 use Rattle.shares.proofs.Sharing.{downs, part-share}
@@ -40,7 +40,7 @@ downs-most o x p = by-order (levelSum o p) 0 (downs-nothing o x p) (λ some. ome
 
 -- parts in a list are rows
 pub parts-rows : (prices quantities : List ℕ) (n : ℕ) (l : Level) → DividesRows l prices quantities n
-    → (shares : List ℕ) → HoldsParts l prices quantities n shares → Rows prices shares n
+    → (shares : List ℕ) → HoldsParts l prices quantities n shares → RowLists prices shares n
 parts-rows prices quantities n l d shares h =
     record {
       priced = d .rows .priced;

@@ -9,7 +9,7 @@ use native.Mathlib.Nat.{le-refl, le-trans, div-mul-le-self, div-add-mod', mod-lt
 use native.Mathlib.Omega.{arith}
 use borrow.Author.Tests.{lt-ltb, le-ltb, eq-eqb, ne-eqb}
 use Rattle.laws.proofs.Compare.{by-comparison}
-use Rattle.market.specs.declared.margin.Level.{Level}
+use Rattle.market.specs.declared.level.Level.{Level}
 use Rattle.shares.specs.Parts.{partOf, keyOf}
 use Rattle.shares.specs.Steps.{Divides}
 

@@ -11,12 +11,12 @@ use Rattle.laws.specs.Filled.{filled}
 use Rattle.laws.proofs.Fills.{filled-ext}
 use Rattle.auction.specs.Offers.{Offers}
 use Rattle.auction.specs.Shares.{cleared}
-use Rattle.market.specs.declared.margin.Level.{Level}
+use Rattle.market.specs.declared.level.Level.{Level}
 use Rattle.market.specs.Rows.{rowsOf}
-use Rattle.spares.specs.Contest.{wins, contenders, inOrder}
-use Rattle.spares.specs.Award.{Awarded}
+use Rattle.contest.specs.Contest.{wins, contenders, inOrder}
+use Rattle.contest.specs.Award.{Awarded}
 use Rattle.shares.specs.Parts.{rowKey, rowStanding}
-use Rattle.shares.specs.Steps.{Parted, Adds}
+use Rattle.shares.specs.Steps.{SparesDue, Adds}
 use Rattle.shares.proofs.Sharing.{part-share}
 use Rattle.shares.proofs.Holding.{parts-rows}
 use Rattle.shares.proofs.Contending.{cleared-won}
@@ -33,7 +33,7 @@ module _ (prices quantities highs lows resources : List ℕ) (n : ℕ) (l : Leve
   abbrev rows : Offers
   rows = rowsOf prices quantities highs lows resources n
 
-  module _ (spare : ℕ) (out : List ℕ) (p : Parted prices quantities highs lows resources n l spare out)
+  module _ (spare : ℕ) (out : List ℕ) (p : SparesDue prices quantities highs lows resources n l spare out)
       (keys standings tenths : List ℕ) (won : Awarded keys highs lows resources standings n spare tenths) where
     -- a row's part and the tenth that it may have won fit
     pub won-adds : n ≤ length tenths → Adds tenths n out

@@ -6,9 +6,9 @@ use mathlib.Core.List.{List}
 use lib.ListN.{length, getD}
 use Rattle.auction.specs.Offers.{Offers}
 use Rattle.auction.specs.Shares.{spareTenths}
-use Rattle.market.specs.Rows.{Rows, rowsOf}
+use Rattle.market.specs.Rows.{RowLists, rowsOf}
 use Rattle.market.specs.Stop.{StopsAt}
-use Rattle.market.specs.declared.margin.Level.{Level}
+use Rattle.market.specs.declared.level.Level.{Level}
 use Rattle.shares.specs.Out.{Ordered}
 use Rattle.shares.specs.Parts.{rowPart}
 
@@ -21,7 +21,7 @@ pub record Divides (l : Level) (price quantity : ℕ) : Type 0 where
 
 -- the same of each of n rows
 pub record DividesRows (l : Level) (prices quantities : List ℕ) (n : ℕ) : Type 0 where
-  pub rows : Rows prices quantities n
+  pub rows : RowLists prices quantities n
   pub each : (i : ℕ) → i < n → Divides l (getD prices i 0) (getD quantities i 0)
 
 -- a list holds the part of each of n rows
@@ -36,7 +36,7 @@ pub record Stopped (o : Offers) (l : Level) : Type 0 where
   pub positive : (i : ℕ) → i < o .count → 0 < o .quantity i
 
 -- n rows that hold their parts, and the spare tenths of their level
-pub record Parted (prices quantities highs lows resources : List ℕ) (n : ℕ) (l : Level) (spare : ℕ) (out : List ℕ) :
+pub record SparesDue (prices quantities highs lows resources : List ℕ) (n : ℕ) (l : Level) (spare : ℕ) (out : List ℕ) :
     Type 0 where
   pub divides : DividesRows l prices quantities n
   pub ordered : Ordered quantities highs lows resources n

@@ -4,8 +4,8 @@ mod spare;
 
 use crate::share::parts;
 use crate::spare::give;
-use market::margin::Level;
-use market::margin::supply_below;
+use market::level::Level;
+use market::level::supply_below;
 use market::supply::supply_at;
 ghost use mathlib.Core.Path.{_≡_};
 ghost use Prim.Native.Nat.{_≤_};
@@ -13,13 +13,13 @@ ghost use lib.ListN.{length};
 ghost use Rattle.auction.specs.Offers.{levelSum};
 ghost use Rattle.layout.specs.Read.{Inside};
 ghost use Rattle.columns.specs.Column.{highsOf, lowsOf};
-ghost use Rattle.market.specs.Rows.{Rows, listed, rowsOf};
+ghost use Rattle.market.specs.Rows.{RowLists, listed, rowsOf};
 ghost use Rattle.market.specs.Stop.{StopsAt};
 ghost use Rattle.shares.specs.Out.{SharedOut, Ordered};
 
 // What the rows at a price hold together.
 fn held_at(prices: &[u32], shares: &[u32], n: usize, price: u32) -> u32
-    requires { ⌜ Rows (now prices) (now shares) n ⌝ }
+    requires { ⌜ RowLists (now prices) (now shares) n ⌝ }
     ensures { λ r. ⌜ r ≡ levelSum (listed (now (prices .entry)) (now (shares .entry)) n) price ⌝ }
 {
     supply_at(prices, shares, n, price) - supply_below(prices, shares, n, price)
@@ -35,7 +35,7 @@ pub fn share_out(
     level: Level,
     out: &mut [u32],
 )
-    requires { ⌜ Inside (now book) n × Rows (now prices) (now quantities) n ⌝ }
+    requires { ⌜ Inside (now book) n × RowLists (now prices) (now quantities) n ⌝ }
     requires { ⌜ Ordered (now quantities) (highsOf (now book) n) (lowsOf (now book) n) (now resources) n ⌝ }
     requires { ⌜ n ≤ length (now out) ⌝ }
     requires { ⌜ StopsAt (listed (now prices) (now quantities) n) (level .total) level ⌝ }

@@ -1,8 +1,8 @@
 // The spare tenths of the level at which a total stops: one each to the first in the order.
 use crate::share::exact;
 use columns::read_stamps;
-use market::margin::Level;
-use spares::award;
+use contest::award;
+use market::level::Level;
 ghost use mathlib.Core.Path.{_≡_};
 ghost use mathlib.Core.Bool.{cond};
 ghost use Prim.Native.Nat.{_+_, _≤_};
@@ -14,7 +14,7 @@ ghost use Rattle.layout.specs.Read.{Inside};
 ghost use Rattle.columns.specs.Column.{highsOf, lowsOf};
 ghost use Rattle.market.specs.Rows.{rowsOf};
 ghost use Rattle.shares.specs.Parts.{partOf, keyOf, rowKey, rowStanding};
-ghost use Rattle.shares.specs.Steps.{Divides, DividesRows, HoldsParts, Parted, Adds};
+ghost use Rattle.shares.specs.Steps.{Divides, DividesRows, HoldsParts, SparesDue, Adds};
 
 // A row's key in the order of spare tenths: the lower the more rounding down left, 0 away from the level.
 fn key(price: u32, quantity: u32, share: u32, level: Level) -> u32
@@ -80,7 +80,7 @@ pub fn give(
     out: &mut [u32],
 )
     requires { ⌜ Inside (now book) n ⌝ }
-    requires { ⌜ Parted (now prices) (now quantities) (highsOf (now book) n) (lowsOf (now book) n) (now resources) n level spare (now out) ⌝ }
+    requires { ⌜ SparesDue (now prices) (now quantities) (highsOf (now book) n) (lowsOf (now book) n) (now resources) n level spare (now out) ⌝ }
     ensures { λ _. ⌜ now (out .exit) ≡ filled (cleared (rowsOf (now (prices .entry)) (now (quantities .entry)) (highsOf (now (book .entry)) n) (lowsOf (now (book .entry)) n) (now (resources .entry)) n) (level .total)) n (now (out .entry)) ⌝ }
 {
     let mut highs = [0u32; 600];

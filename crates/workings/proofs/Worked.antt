@@ -21,7 +21,7 @@ use Rattle.sale.specs.Sale.{Clearable}
 use Rattle.sale.proofs.Sales.{columns-offers}
 use Rattle.workings.specs.Stop.{levelAt, tenthAt, nextAt, stopAt}
 use Rattle.workings.specs.Share.{shareAt, rowShareAt}
-use Rattle.workings.specs.Works.{worksOf, answerBy}
+use Rattle.workings.specs.Works.{worksOf, workedBy}
 use Rattle.workings.specs.declared.works.Works.{Works}
 use Rattle.workings.specs.declared.works.Answer.the-variants.{Worked, Refused as Answer·Refused}
 use Rattle.workings.specs.declared.stop.Stop.{Stop}
@@ -29,10 +29,10 @@ use Rattle.workings.specs.declared.share.RowShare.{RowShare}
 
 -- ---- the answer by the book's first fault
 
-pub answer-refused : (v : Verdict) (w : Works) (number place : ℕ) → v ≡ Refused number place → Answer·Refused number place ≡ answerBy v w
+pub answer-refused : (v : Verdict) (w : Works) (number place : ℕ) → v ≡ Refused number place → Answer·Refused number place ≡ workedBy v w
 answer-refused v w number place e = rw e
 
-pub answer-worked : (v : Verdict) (w own : Works) → v ≡ Passed → w ≡ own → Worked w ≡ answerBy v own
+pub answer-worked : (v : Verdict) (w own : Works) → v ≡ Passed → w ≡ own → Worked w ≡ workedBy v own
 answer-worked v w own e f = rw e (ap Worked f)
 
 -- ---- columns

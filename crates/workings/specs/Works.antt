@@ -19,6 +19,6 @@ worksOf b p row =
     record { stop = stopAt (curve2026 (termsOf p)) (offersOf b); share = rowShareAt (offersOf b) (total b p) row }
 
 -- the workings of a book that is accepted, and of any other its refusal
-abbrev pub answerBy : Verdict → Works → Answer
-answerBy Passed works = Worked works
-answerBy (Refused number place) works = Answer·Refused number place
+abbrev pub workedBy : Verdict → Works → Answer
+workedBy Passed works = Worked works
+workedBy (Refused number place) works = Answer·Refused number place

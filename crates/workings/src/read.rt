@@ -10,7 +10,7 @@ use values::place::Offer;
 use values::place::offer_in;
 ghost use mathlib.Core.Path.{_≡_};
 ghost use Prim.Native.Nat.{_≤_};
-ghost use Rattle.layout.specs.Form.{formFault, offerCount, rowPart};
+ghost use Rattle.layout.specs.Form.{formFault, offerCount, ownBytes};
 ghost use Rattle.layout.specs.Read.{bookParameters};
 ghost use Rattle.workings.specs.Read.{headBy, rowsBy, offerBy};
 
@@ -50,7 +50,7 @@ pub fn rows_of(book: &[u8]) -> usize
 
 // The offer of a row, read from its own bytes.
 pub fn offer_of(book: &[u8], row: usize) -> RowOffer
-    ensures { λ r. ⌜ r ≡ offerBy (rowPart (now (book .entry)) row) ⌝ }
+    ensures { λ r. ⌜ r ≡ offerBy (ownBytes (now (book .entry)) row) ⌝ }
 {
     let part = own_bytes(book, row);
     if part.len() < 32 {

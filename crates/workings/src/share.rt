@@ -1,10 +1,10 @@
 // A row's share of its price level.
-use market::margin::supply_below;
+use market::level::supply_below;
 use market::supply::supply_at;
 ghost use mathlib.Core.Path.{_≡_};
 ghost use Prim.Native.Nat.{ℕ, _-_, _<_, min};
 ghost use lib.ListN.{getD};
-ghost use Rattle.market.specs.Rows.{Rows, listed};
+ghost use Rattle.market.specs.Rows.{RowLists, listed};
 ghost use Rattle.workings.specs.Share.{LevelAt, shareAt, rowShareAt};
 
 // What a row's level receives and offers in all, its exact part of that rounded down, and what rounding down leaves: the
@@ -42,7 +42,7 @@ fn least(a: u32, b: u32) -> u32
 
 // What the level at a price receives of x, and what is offered at it.
 fn level_at(prices: &[u32], quantities: &[u32], n: usize, x: u32, price: u32) -> Received
-    requires { ⌜ Rows (now prices) (now quantities) n ⌝ }
+    requires { ⌜ RowLists (now prices) (now quantities) n ⌝ }
     ensures { λ r. ⌜ LevelAt (listed (now (prices .entry)) (now (quantities .entry)) n) x price r ⌝ }
 {
     let below = supply_below(prices, quantities, n, price);
@@ -55,7 +55,7 @@ fn level_at(prices: &[u32], quantities: &[u32], n: usize, x: u32, price: u32) ->
 
 // The share of a row that is there.
 fn share_at(prices: &[u32], quantities: &[u32], n: usize, x: u32, row: usize) -> Share
-    requires { ⌜ Rows (now prices) (now quantities) n × (row < n) × (0 < getD (now quantities) row 0) ⌝ }
+    requires { ⌜ RowLists (now prices) (now quantities) n × (row < n) × (0 < getD (now quantities) row 0) ⌝ }
     ensures { λ r. ⌜ r ≡ shareAt (listed (now (prices .entry)) (now (quantities .entry)) n) x row ⌝ }
 {
     let level = level_at(prices, quantities, n, x, prices[row]);
@@ -76,7 +76,7 @@ pub(crate) fn row_share_at(
     x: u32,
     row: usize,
 ) -> RowShare
-    requires { ⌜ Rows (now prices) (now quantities) n × ((i : ℕ) → i < n → 0 < getD (now quantities) i 0) ⌝ }
+    requires { ⌜ RowLists (now prices) (now quantities) n × ((i : ℕ) → i < n → 0 < getD (now quantities) i 0) ⌝ }
     ensures { λ r. ⌜ r ≡ rowShareAt (listed (now (prices .entry)) (now (quantities .entry)) n) x row ⌝ }
 {
     if row < n {

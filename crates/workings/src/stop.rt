@@ -1,14 +1,14 @@
 // Where a total stops on the curve, and why.
 use curve::Curve;
 use curve::tenth_price;
-use market::margin::Level;
+use market::level::Level;
 use market::supply::supply_at;
 use market::total::cleared_level;
 use units::CentsPerMwDay;
 ghost use mathlib.Core.Path.{_≡_};
 ghost use Prim.Native.Nat.{_≤_};
 ghost use Rattle.curve.specs.Shape.{Shaped};
-ghost use Rattle.market.specs.Rows.{Rows, listed};
+ghost use Rattle.market.specs.Rows.{RowLists, listed};
 ghost use Rattle.workings.specs.Stop.{tenthAt, nextAt, stopAt};
 
 // A tenth of a megawatt: the curve price there, and everything offered at that price or below.
@@ -34,7 +34,7 @@ pub struct Stop {
 
 // The curve price at k, and what is offered at it or below.
 fn tenth_at(c: Curve, prices: &[u32], quantities: &[u32], n: usize, k: u32) -> Tenth
-    requires { ⌜ Shaped c × (k ≤ c .q3) × Rows (now prices) (now quantities) n ⌝ }
+    requires { ⌜ Shaped c × (k ≤ c .q3) × RowLists (now prices) (now quantities) n ⌝ }
     ensures { λ r. ⌜ r ≡ tenthAt c (listed (now (prices .entry)) (now (quantities .entry)) n) k ⌝ }
 {
     let price = tenth_price(c, k);
@@ -46,7 +46,7 @@ fn tenth_at(c: Curve, prices: &[u32], quantities: &[u32], n: usize, k: u32) -> T
 
 // The tenth past x.
 fn next_at(c: Curve, prices: &[u32], quantities: &[u32], n: usize, x: u32) -> Next
-    requires { ⌜ Shaped c × Rows (now prices) (now quantities) n ⌝ }
+    requires { ⌜ Shaped c × RowLists (now prices) (now quantities) n ⌝ }
     ensures { λ r. ⌜ r ≡ nextAt c (listed (now (prices .entry)) (now (quantities .entry)) n) x ⌝ }
 {
     if x < c.q3 {
@@ -58,7 +58,7 @@ fn next_at(c: Curve, prices: &[u32], quantities: &[u32], n: usize, x: u32) -> Ne
 
 // Where the cleared total of n rows stops on a curve.
 pub(crate) fn stop_at(c: Curve, prices: &[u32], quantities: &[u32], n: usize) -> Stop
-    requires { ⌜ Shaped c × Rows (now prices) (now quantities) n ⌝ }
+    requires { ⌜ Shaped c × RowLists (now prices) (now quantities) n ⌝ }
     ensures { λ r. ⌜ r ≡ stopAt c (listed (now (prices .entry)) (now (quantities .entry)) n) ⌝ }
 {
     let level = cleared_level(c, prices, quantities, n);

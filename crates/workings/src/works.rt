@@ -15,7 +15,7 @@ ghost use mathlib.Core.Path.{_≡_};
 ghost use Rattle.values.specs.declared.Verdict.the-variants.{Passed};
 ghost use Rattle.layout.specs.Read.{bookParameters};
 ghost use Rattle.book.specs.Faults.{firstFault};
-ghost use Rattle.workings.specs.Works.{worksOf, answerBy};
+ghost use Rattle.workings.specs.Works.{worksOf, workedBy};
 
 // Where the total stops, and the share of one row.
 pub struct Works {
@@ -61,7 +61,7 @@ fn works_accepted(book: &[u8], row: usize) -> Works
 // The workings of a row of a book, or the book's refusal. Where the row isn't there, where the total stops is worked all the
 // same.
 pub fn workings(book: &[u8], row: usize) -> Answer
-    ensures { λ r. ⌜ r ≡ answerBy (firstFault (now (book .entry))) (worksOf (now (book .entry)) (bookParameters (now (book .entry))) row) ⌝ }
+    ensures { λ r. ⌜ r ≡ workedBy (firstFault (now (book .entry))) (worksOf (now (book .entry)) (bookParameters (now (book .entry))) row) ⌝ }
 {
     if let Verdict::Refused(number, place) = verdict(book) {
         return Answer::Refused(number, place);

@@ -24,8 +24,8 @@ abbrev μ-loop : tie.MeasureT-loop
 loop-holds : tie.Need-loop-holds Inv-loop μ-loop
 loop-holds c = (search needs, filled-none _ _, filled-none _ _)
 
-row-of-requires : tie.Need-row-of-requires Inv-loop μ-loop
-row-of-requires c κs = c .before .before .before .before .before .pre .0 .within _ (c .loop-test .taken)
+row-bytes-requires : tie.Need-row-bytes-requires Inv-loop μ-loop
+row-bytes-requires c κs = c .before .before .before .before .before .pre .0 .within _ (c .loop-test .taken)
 
 offer-in-requires : tie.Need-offer-in-requires Inv-loop μ-loop
 offer-in-requires c κs = search needs
@@ -58,7 +58,7 @@ loop-less c = search needs
 as-offer : (c : tie.After-offer-in Inv-loop μ-loop) →
     let at = c .before .before .before in
     c .offer-in .result ≡ bookOffer (at .before .before .before .before .args .book .now) (at .loop .row)
-as-offer c = offer-of-row _ _ (c .before .row-of .ensures .0) (c .offer-in .ensures)
+as-offer c = offer-of-row _ _ (c .before .row-bytes .ensures .0) (c .offer-in .ensures)
 
 loop-again : tie.Need-loop-again Inv-loop μ-loop
 loop-again c =
@@ -85,7 +85,7 @@ read-stamps-spec =
     Inv-loop
     μ-loop
     loop-holds
-    row-of-requires
+    row-bytes-requires
     offer-in-requires
     cast-highs
     mul-highs

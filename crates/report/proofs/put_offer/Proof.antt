@@ -6,8 +6,8 @@ use borrow.Author.Needs.{needs}
 use Rattle.report.proofs.put_offer.Statement.{statement}
 use Rattle.report.proofs.put_offer.Tie as tie
 
-row-of-requires : tie.Need-row-of-requires
-row-of-requires c κs = search needs
+row-bytes-requires : tie.Need-row-bytes-requires
+row-bytes-requires c κs = search needs
 
 offer-in-requires : tie.Need-offer-in-requires
 offer-in-requires c κs = search needs
@@ -24,7 +24,7 @@ same-length c = search needs
 returns : tie.Need-returns
 returns c =
     let put = c .before .before .put-row .ensures in (
-      row-told _ _ _ _ _ _ _ _ (c .before .before .before .before .before .before .row-of .ensures .0) (c .before .before .before .before .before .offer-in .ensures) (c .before .before .before .make-whole .ensures) (put .0),
+      row-told _ _ _ _ _ _ _ _ (c .before .before .before .before .before .before .row-bytes .ensures .0) (c .before .before .before .before .before .offer-in .ensures) (c .before .before .before .make-whole .ensures) (put .0),
       omega (arith, put .1),
     )
 
@@ -32,7 +32,7 @@ pub put-offer-spec : {M : Type 1} → statement M
 put-offer-spec =
     tie.close
     (tie.spec
-    row-of-requires
+    row-bytes-requires
     offer-in-requires
     make-whole-requires
     put-row-requires

@@ -31,8 +31,8 @@ loop-holds c = (search needs, values-none _ _ _)
 cast-at : tie.Need-cast-at Inv-loop μ-loop
 cast-at c = search needs
 
-row-of-requires : tie.Need-row-of-requires Inv-loop μ-loop
-row-of-requires c κs = c .before .before .before .before .before .before .before .pre .0 .within (c .before .loop .row) (c .loop-test .taken)
+row-bytes-requires : tie.Need-row-bytes-requires Inv-loop μ-loop
+row-bytes-requires c κs = c .before .before .before .before .before .before .before .pre .0 .within (c .before .loop .row) (c .loop-test .taken)
 
 offer-in-requires : tie.Need-offer-in-requires Inv-loop μ-loop
 offer-in-requires c κs = search needs
@@ -41,7 +41,7 @@ offer-in-requires c κs = search needs
 as-offer : (c : tie.After-offer-in Inv-loop μ-loop) →
     let at = c .before .before .before in
     c .offer-in .result ≡ bookOffer (at .before .before .before .before .before .before .args .book .now) (at .loop .row)
-as-offer c = offer-of-row _ _ (c .before .row-of .ensures .0) (c .offer-in .ensures)
+as-offer c = offer-of-row _ _ (c .before .row-bytes .ensures .0) (c .offer-in .ensures)
 
 number-held-requires : tie.Need-number-held-requires Inv-loop μ-loop
 number-held-requires c κs = search needs
@@ -158,7 +158,7 @@ values-fault-spec =
     μ-loop
     loop-holds
     cast-at
-    row-of-requires
+    row-bytes-requires
     offer-in-requires
     number-held-requires
     mul-prices

@@ -44,8 +44,8 @@ offer-count-requires c κs = form-passed-length _ (form-told c)
 cast-if1 : tie.Need-cast-if1
 cast-if1 c = search needs
 
-row-of-requires : tie.Need-row-of-requires
-row-of-requires c κs = form-passed-row _ (form-told (c .before .before)) _ (omega arith)
+row-bytes-requires : tie.Need-row-bytes-requires
+row-bytes-requires c κs = form-passed-row _ (form-told (c .before .before)) _ (omega arith)
 
 sub-result-2 : tie.Need-sub-result-2
 sub-result-2 c = search needs
@@ -58,7 +58,7 @@ part-result-end-2 c = search needs
 
 returns-2 : tie.Need-returns-2
 returns-2 c =
-    c .row-of .ensures .0 ∙ sym (row-part-there _ _ (form-told (c .before .before .before)) (omega arith))
+    c .row-bytes .ensures .0 ∙ sym (row-part-there _ _ (form-told (c .before .before .before)) (omega arith))
 
 returns-3 : tie.Need-returns-3
 returns-3 c = sym (row-part-past _ _ (form-told (c .before .before .before)) (omega arith))
@@ -76,7 +76,7 @@ own-bytes-spec =
     enum-told-2
     offer-count-requires
     cast-if1
-    row-of-requires
+    row-bytes-requires
     sub-result-2
     part-result-start-2
     part-result-end-2

@@ -8,7 +8,7 @@ use borrow.Author.Tests.{eq-eqb, ne-eqb, lt-ltb, le-ltb}
 use Rattle.curve.specs.Price.{tenthPrice}
 use Rattle.curve.specs.declared.Curve.{Curve}
 use Rattle.market.specs.Price.{priceAt}
-use Rattle.market.specs.declared.margin.Level.{Level}
+use Rattle.market.specs.declared.level.Level.{Level}
 use Rattle.market.specs.declared.price.ClearingPrice.the-variants.{Price}
 use Rattle.market.proofs.price.clearing_price.Statement.{statement}
 use Rattle.market.proofs.price.clearing_price.Tie as tie

@@ -1,7 +1,7 @@
 -- `ozp_row` shows the row that the reader hands back.
 -- Assumes nothing.
 use mathlib.Core.Path.{_∙_, ap}
-use Rattle.ozpinduru.specs.Export.{rowOf}
+use Rattle.ozpinduru.specs.Export.{exportedOffer}
 use Rattle.ozpinduru.proofs.Exports.{handed-nothing, handed-long, handed-offer}
 use borrow.Author.Needs.{needs}
 use Rattle.ozpinduru.proofs.export.ozp_row.Statement.{statement}
@@ -24,7 +24,7 @@ row-requires c κs = search needs
 
 returns-2 : tie.Need-returns-2
 returns-2 c =
-    c .row .ensures ∙ ap rowOf (c .before .offer-in .ensures)
+    c .row .ensures ∙ ap exportedOffer (c .before .offer-in .ensures)
     ∙ handed-offer _ _ _ (c .before .before .before .own-bytes .ensures) (c .before .before .if1 .left)
 
 pub ozp-row-spec : {M : Type 1} → statement M

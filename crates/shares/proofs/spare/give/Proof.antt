@@ -12,7 +12,7 @@ use Rattle.laws.proofs.Filling.{length-filling}
 use Rattle.laws.proofs.FilledRows.{filled-row}
 use Rattle.columns.specs.Column.{highsOf, lowsOf}
 use Rattle.columns.proofs.Offers.{lows-small}
-use Rattle.spares.specs.Award.{Awarded}
+use Rattle.contest.specs.Award.{Awarded}
 use Rattle.shares.specs.Parts.{rowKey}
 use Rattle.shares.proofs.Tenths.{standing-most, won-adds, won-cleared}
 use Rattle.shares.proofs.spare.give.Statement.{statement}

@@ -18,8 +18,8 @@ use Rattle.book.proofs.Accepted.{accepted-form, accepted-inside, accepted-rows}
 use Rattle.sale.specs.Auction.{termsOf}
 use Rattle.sale.specs.Sale.{Clearable}
 use Rattle.sale.proofs.Sales.{columns-rows, columns-ordered}
-use Rattle.ozpinduru.proofs.Clearables.{accepted-clearable}
-use Rattle.ozpinduru.proofs.Calls.{read-clearable}
+use Rattle.call.proofs.Clearables.{accepted-clearable}
+use Rattle.call.proofs.Calls.{read-clearable}
 use Rattle.workings.proofs.Worked.{works-are}
 use Rattle.workings.proofs.works.works_accepted.Statement.{statement}
 use Rattle.workings.proofs.works.works_accepted.Tie as tie

@@ -1,0 +1,83 @@
+-- The demands, read on the call: for every string of bytes on which it answers with a clearing.
+--
+-- In order: the total is the largest that can be supplied; the price; where nothing clears there is no price and nothing is
+-- paid; the numbers in the cleared buffer clear by price, and are the best choice; they divide each price level by the stated
+-- shares; minimum blocks change nothing of what is cleared.
+-- Assumes nothing.
+use mathlib.Core.Path.{_≡_, ap, _∙_}
+use mathlib.Core.List.{List}
+use Prim.Native.Nat.{ℕ, _<_}
+use lib.ListN.{getD}
+use Rattle.laws.proofs.Sums.{sumTo-ext}
+use Rattle.auction.specs.Offers.{Offers, Demand}
+use Rattle.auction.specs.Clearing.{clearedTotal, clearingPrice}
+use Rattle.auction.specs.Shares.{cleared}
+use Rattle.auction.proofs.Total.{IsTotal, total-is-largest}
+use Rattle.auction.proofs.Best.{ByPrice, Best, byPrice-best}
+use Rattle.auction.proofs.Cleared.{cleared-byPrice}
+use Rattle.auction.proofs.Divided.{Divided, cleared-divided, divided-agree}
+use Rattle.market.specs.Price.{asPrice}
+use Rattle.layout.specs.Read.{bookParameters}
+use Rattle.book.specs.Faults.{firstFault}
+use Rattle.values.specs.declared.Verdict.the-variants.{Passed}
+use Rattle.sale.specs.Auction.{offersOf, demand, total, price, rowCleared}
+use Rattle.call.specs.Answer.{Outcome}
+use Rattle.sale.specs.Payment.{clearingOf}
+use Rattle.sale.specs.declared.Clearing.{Clearing}
+use Rattle.call.specs.declared.Answer.the-variants.{Cleared as Answer·Cleared}
+use Rattle.call.proofs.Clearables.{accepted-falls, accepted-proper}
+use Rattle.call.proofs.Outcomes.{cleared-accepted, cleared-clearing, cleared-row}
+
+-- amounts that agree in every row clear by price alike
+byPrice-agree : (d : Demand) (o : Offers) (x y : ℕ → ℕ) → ((i : ℕ) → i < o .count → y i ≡ x i) → ByPrice d o x → ByPrice d o y
+unfolding Rattle.auction.specs.Surplus.total
+byPrice-agree d o x y e h =
+    record {
+      within = λ i l. rw (e i l) (h .within i l);
+      sum = sumTo-ext y x (o .count) e ∙ h .sum;
+      whole = λ p f i l g. e i l ∙ h .whole p f i l g;
+      nothing = λ p f i l g. e i l ∙ h .nothing p f i l g;
+    }
+
+module _ (b cleared₀ committed₀ : List ℕ) (k : Clearing) (cleared₁ committed₁ : List ℕ)
+    (out : Outcome b cleared₀ committed₀ (Answer·Cleared k) cleared₁ committed₁) where
+  -- the curve that the book's parameters make
+  abbrev asked : Demand
+  asked = demand b (bookParameters b)
+
+  -- the numbers in the cleared buffer
+  abbrev amounts : ℕ → ℕ
+  amounts row = getD cleared₁ row 0
+
+  accepted : firstFault b ≡ Passed
+  accepted = cleared-accepted b cleared₀ committed₀ k cleared₁ committed₁ out
+
+  -- DEMAND 2. The cleared total is the largest quantity that offers priced at or under the curve there can supply.
+  pub call-total : IsTotal asked (offersOf b) (k .total)
+  unfolding total clearingOf
+  call-total = rw (ap (λ (c : Clearing). c .total) (cleared-clearing b cleared₀ committed₀ k cleared₁ committed₁ out)) (total-is-largest asked (offersOf b))
+
+  -- The price is the clearing price, or its absence.
+  pub call-price : k .price ≡ asPrice (clearingPrice asked (offersOf b))
+  unfolding price clearingOf
+  call-price = ap (λ (c : Clearing). c .price) (cleared-clearing b cleared₀ committed₀ k cleared₁ committed₁ out)
+
+  -- DEMAND 2. Every offer under the price clears in full, every offer over it nothing, and the amounts add up to the total.
+  pub call-by-price : ByPrice asked (offersOf b) amounts
+  unfolding rowCleared total offersOf
+  call-by-price =
+      byPrice-agree asked (offersOf b) (cleared (offersOf b) (clearedTotal asked (offersOf b))) amounts
+      (λ i l. cleared-row b cleared₀ committed₀ k cleared₁ committed₁ out i l)
+      (cleared-byPrice asked (offersOf b) (accepted-falls b accepted) (accepted-proper b accepted))
+
+  -- DEMAND 3. No other choice of amounts leaves more surplus, and none with equal surplus clears more.
+  pub call-best : Best asked (offersOf b) amounts
+  call-best = byPrice-best asked (offersOf b) amounts (accepted-falls b accepted) call-by-price
+
+  -- DEMAND 3. Offers tied at one price divide what that price sells by the stated shares.
+  pub call-shares : Divided (offersOf b) (clearedTotal asked (offersOf b)) amounts
+  unfolding rowCleared total offersOf
+  call-shares =
+      divided-agree (offersOf b) (clearedTotal asked (offersOf b)) (cleared (offersOf b) (clearedTotal asked (offersOf b))) amounts
+      (λ i l. cleared-row b cleared₀ committed₀ k cleared₁ committed₁ out i l)
+      (cleared-divided (offersOf b) (clearedTotal asked (offersOf b)) (accepted-proper b accepted))
