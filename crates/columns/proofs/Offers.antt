@@ -1,48 +1,65 @@
--- What the columns say of the offers: the two halves of a time stamp, and lists that began as zeros, read at every row.
+-- Offers that stand in columns, read at every row.
+--
+-- In order: a column holds each row's value and is long enough; of all offers it is the value as a function of the row, and so
+-- the columns are the offers of the auction.
 -- Assumes nothing.
-use mathlib.Core.Path.{_≡_, refl, ap, ap₂, _∙_, fun-ext}
-use mathlib.Core.Bool.{Bool, true, false, cond}
+use mathlib.Core.Path.{_≡_, refl, ap, sym, _∙_, fun-ext}
+use mathlib.Core.Bool.{cond}
 use mathlib.Core.List.{List}
-use Prim.Native.Nat.{ℕ, _+_, _*_, _≤_, _<_}
+use Prim.Native.Nat.{ℕ, _≤_, _<_}
 use native.Mathlib.Omega.{arith}
-use lib.ListN.{getD}
+use lib.ListN.{length, getD, List·getD-eq-default}
 use lib.Dec.{ltb}
-use Rattle.laws.proofs.Filling.{zeros, length-zeros, filled-zeros}
+use borrow.Author.Tests.{lt-ltb, le-ltb}
+use Rattle.laws.specs.Filled.{filled}
+use Rattle.laws.proofs.Cases.{by-order, cond-true, cond-false}
 use Rattle.laws.proofs.Fills.{getD-filled}
-use Rattle.layout.specs.Read.{bookOffer}
-use Rattle.columns.specs.Column.{highOf, lowOf, lowsOf, Column}
+use Rattle.laws.proofs.Filling.{zeros, length-zeros, length-filling, filled-zeros}
+use Rattle.auction.specs.Offers.{Offers}
+use Rattle.values.specs.Values.{held}
+use Rattle.values.specs.Contents.{noOffer, offerAt}
+use Rattle.values.specs.declared.place.Offer.{Offer}
+use Rattle.columns.specs.Column.{rowPrice, rowQuantity, rowStamp, rowResource, Column, rowsOf}
+use Rattle.columns.specs.Columns.{Columns, Listed}
 
-module _ (b : List ℕ) (row : ℕ) where
-  -- the two halves make the stamp
-  pub stamp-halves : highOf b row * 4294967296 + lowOf b row ≡ bookOffer b row .stamp
-  stamp-halves = omega arith
+module _ (value : ℕ → ℕ) {n m : ℕ} {after : List ℕ} (column : Column value n (zeros m) after) (enough : n ≤ m) where
+  pub column-long : n ≤ length after
+  column-long = omega (arith, length-filling value n (zeros m) column, length-zeros m)
 
-  -- the lower half has 32 bits
-  pub low-small : lowOf b row < 4294967296
-  low-small = omega arith
+  pub column-row : (i : ℕ) → i < n → getD after i 0 ≡ value i
+  column-row i l = ap (λ (xs : List ℕ). getD xs i 0) column ∙ getD-filled value n (zeros m) i 0 (omega (arith, length-zeros m)) l
 
--- in a column of them too
-pub lows-small : (b : List ℕ) (n : ℕ) → n ≤ 600 → (i : ℕ) → i < n → getD (lowsOf b n) i 0 < 4294967296
-lows-small b n few i h =
-    omega (arith, getD-filled (lowOf b) n (zeros 600) i 0 (omega (arith, length-zeros 600)) h, low-small b i)
+module _ (offers : List Offer) where
+  -- a value of each offer, which is 0 past the last, in a column of all of them
+  column-all : (of : Offer → ℕ) {m : ℕ} {after : List ℕ} → of noOffer ≡ 0
+      → Column (λ i. of (offerAt offers i)) (length offers) (zeros m) after → length offers ≤ m
+      → _≡_ {A = ℕ → ℕ} (λ i. getD after i 0) (λ i. of (offerAt offers i))
+  column-all of {m} none column enough =
+      filled-zeros (λ i. of (offerAt offers i)) (length offers) m enough column
+      ∙ fun-ext (λ i. by-order (length offers) i
+      (λ h. cond-false _ _ _ (le-ltb i (length offers) h) ∙ sym (ap of (List·getD-eq-default offers noOffer h) ∙ none))
+      (λ h. cond-true _ _ _ (lt-ltb i (length offers) h)))
 
--- a column that began as 600 zeros reads as the value of each row, and as 0 past the last
-pub getD-column : (value : ℕ → ℕ) (n : ℕ) {after : List ℕ} → n ≤ 600 → Column value n (zeros 600) after
-    → _≡_ {A = ℕ → ℕ} (λ row. getD after row 0) (λ row. cond (ltb row n) (value row) 0)
-getD-column value n few column = filled-zeros value n 600 few column
+-- the offers of an auction, by row
+abbrev pub offersBy : List Offer → Offers
+offersBy offers =
+    record {
+      count = length offers;
+      price = rowPrice offers;
+      quantity = rowQuantity offers;
+      stamp = rowStamp offers;
+      resource = rowResource offers;
+    }
 
--- the halves of a stamp that is there, or of none
-cond-halves : (t : Bool) (high low : ℕ) → cond t high 0 * 4294967296 + cond t low 0 ≡ cond t (high * 4294967296 + low) 0
-cond-halves true high low = refl
-cond-halves false high low = refl
-
--- and the columns of the halves, taken together, as the stamp of each row, and as 0 past the last
-pub getD-stamps : (b : List ℕ) (n : ℕ) {highs lows : List ℕ} → n ≤ 600 → Column (highOf b) n (zeros 600) highs
-    → Column (lowOf b) n (zeros 600) lows
-    → _≡_ {A = ℕ → ℕ} (λ row. getD highs row 0 * 4294967296 + getD lows row 0)
-    (λ row. cond (ltb row n) (bookOffer b row .stamp) 0)
-getD-stamps b n few high low =
-    fun-ext (λ row.
-    ap₂ (λ h l. h row * 4294967296 + l row) (getD-column (highOf b) n few high) (getD-column (lowOf b) n few low)
-    ∙ cond-halves (ltb row n) (highOf b row) (lowOf b row)
-    ∙ ap (λ stamp. cond (ltb row n) stamp 0) (stamp-halves b row))
+-- all offers in columns are those of the auction
+pub listed-offers : (offers : List Offer) (v : Columns) → Listed offers v
+    → rowsOf (v .prices) (v .quantities) (v .stamps) (v .resources) (length offers) ≡ offersBy offers
+listed-offers offers v l =
+    λ i.
+    record {
+      count = length offers;
+      price = column-all offers (λ o. held (o .price)) refl (l .read .price) (l .enough) i;
+      quantity = column-all offers (λ o. o .quantity) refl (l .read .quantity) (l .enough) i;
+      stamp = column-all offers (λ o. o .stamp) refl (l .read .stamp) (l .enough) i;
+      resource = column-all offers (λ o. o .resource) refl (l .read .resource) (l .enough) i;
+    }

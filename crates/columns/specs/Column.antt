@@ -1,42 +1,44 @@
--- The rows of a book as columns: what each list holds of row i.
+-- The offers of a book as columns: what each list holds of row i.
 -- Assumes nothing.
-use Prim.Native.Nat.{ℕ, _/_, _%_}
+use Prim.Native.Nat.{ℕ}
 use mathlib.Core.Path.{_≡_}
 use mathlib.Core.List.{List}
-use lib.ListN.{replicate}
+use lib.ListN.{getD}
 use Rattle.laws.specs.Filled.{filled}
+use Rattle.auction.specs.Offers.{Offers}
 use Rattle.values.specs.Values.{held, leastOf}
-use Rattle.layout.specs.Read.{bookOffer}
+use Rattle.values.specs.Contents.{offerAt}
+use Rattle.values.specs.declared.place.Offer.{Offer}
 
-module _ (b : List ℕ) (row : ℕ) where
+module _ (offers : List Offer) (row : ℕ) where
   -- the price that is held, asked only of books whose prices are all given
-  abbrev pub priceOf : ℕ
-  priceOf = held (bookOffer b row .price)
+  abbrev pub rowPrice : ℕ
+  rowPrice = held (offerAt offers row .price)
 
-  abbrev pub quantityOf : ℕ
-  quantityOf = bookOffer b row .quantity
+  abbrev pub rowQuantity : ℕ
+  rowQuantity = offerAt offers row .quantity
 
   -- the least that the row commits once any of it clears
-  abbrev pub leastsOf : ℕ
-  leastsOf = leastOf (bookOffer b row .block)
+  abbrev pub rowLeast : ℕ
+  rowLeast = leastOf (offerAt offers row .block)
 
-  -- the time stamp's two halves
-  abbrev pub highOf : ℕ
-  highOf = bookOffer b row .stamp / 4294967296
+  abbrev pub rowResource : ℕ
+  rowResource = offerAt offers row .resource
 
-  abbrev pub lowOf : ℕ
-  lowOf = bookOffer b row .stamp % 4294967296
-
-  abbrev pub resourceOf : ℕ
-  resourceOf = bookOffer b row .resource
-
--- the halves of the stamps of n rows, in lists of 600
-abbrev pub highsOf : List ℕ → ℕ → List ℕ
-highsOf b n = filled (highOf b) n (replicate 600 0)
-
-abbrev pub lowsOf : List ℕ → ℕ → List ℕ
-lowsOf b n = filled (lowOf b) n (replicate 600 0)
+  abbrev pub rowStamp : ℕ
+  rowStamp = offerAt offers row .stamp
 
 -- a list that was `before` holds n rows of a column
 abbrev pub Column : (ℕ → ℕ) → ℕ → List ℕ → List ℕ → Type 0
 Column value n before after = after ≡ filled value n before
+
+-- the first n rows of four columns as offers
+abbrev pub rowsOf : (prices quantities stamps resources : List ℕ) → ℕ → Offers
+rowsOf prices quantities stamps resources n =
+    record {
+      count = n;
+      price = λ i. getD prices i 0;
+      quantity = λ i. getD quantities i 0;
+      stamp = λ i. getD stamps i 0;
+      resource = λ i. getD resources i 0;
+    }

@@ -1,24 +1,27 @@
--- Four columns side by side, room for rows in them, and what they hold once the rows are read.
+-- Five columns side by side, room for rows in them, and what they hold once the rows are read.
 -- Assumes nothing.
 use Prim.Native.Nat.{ℕ, _≤_}
+use mathlib.Core.Path.{_≡_}
 use mathlib.Core.List.{List}
 use lib.ListN.{length, replicate}
-use Rattle.columns.specs.Column.{priceOf, quantityOf, leastsOf, resourceOf, Column}
+use Rattle.values.specs.declared.place.Offer.{Offer}
+use Rattle.columns.specs.Column.{rowPrice, rowQuantity, rowLeast, rowResource, rowStamp, Column}
 
--- the four lists that a book is read into
+-- the five lists that a book is read into
 pub record Columns : Type 0 where
   pub prices : List ℕ
   pub quantities : List ℕ
   pub leasts : List ℕ
   pub resources : List ℕ
+  pub stamps : List ℕ
 
-abbrev pub columnsOf : (prices quantities leasts resources : List ℕ) → Columns
-columnsOf prices quantities leasts resources =
-    record { prices = prices; quantities = quantities; leasts = leasts; resources = resources }
+abbrev pub columnsOf : (prices quantities leasts resources stamps : List ℕ) → Columns
+columnsOf prices quantities leasts resources stamps =
+    record { prices = prices; quantities = quantities; leasts = leasts; resources = resources; stamps = stamps }
 
--- four columns of 600 zeros
-abbrev pub empty : Columns
-empty = columnsOf (replicate 600 0) (replicate 600 0) (replicate 600 0) (replicate 600 0)
+-- five columns of so many zeros
+abbrev pub empty : ℕ → Columns
+empty m = columnsOf (replicate m 0) (replicate m 0) (replicate m 0) (replicate m 0) (replicate m 0)
 
 -- each list has a place for every one of n rows
 pub record Room (n : ℕ) (lists : Columns) : Type 0 where
@@ -26,14 +29,23 @@ pub record Room (n : ℕ) (lists : Columns) : Type 0 where
   pub quantity : n ≤ length (lists .quantities)
   pub least : n ≤ length (lists .leasts)
   pub resource : n ≤ length (lists .resources)
+  pub stamp : n ≤ length (lists .stamps)
 
--- the first n rows of a book stand in the lists, in order, and nothing else in them is touched
-pub record ColumnsRead (b : List ℕ) (n : ℕ) (before after : Columns) : Type 0 where
+-- the first n offers stand in the lists, in order, and nothing else in them is touched
+pub record ColumnsRead (offers : List Offer) (n : ℕ) (before after : Columns) : Type 0 where
   -- the price that each row holds
-  pub price : Column (priceOf b) n (before .prices) (after .prices)
+  pub price : Column (rowPrice offers) n (before .prices) (after .prices)
   -- the quantity that each row offers
-  pub quantity : Column (quantityOf b) n (before .quantities) (after .quantities)
+  pub quantity : Column (rowQuantity offers) n (before .quantities) (after .quantities)
   -- the least that each row commits once any of it clears
-  pub least : Column (leastsOf b) n (before .leasts) (after .leasts)
+  pub least : Column (rowLeast offers) n (before .leasts) (after .leasts)
   -- the number of each row's resource
-  pub resource : Column (resourceOf b) n (before .resources) (after .resources)
+  pub resource : Column (rowResource offers) n (before .resources) (after .resources)
+  -- each row's time stamp
+  pub stamp : Column (rowStamp offers) n (before .stamps) (after .stamps)
+
+-- all offers of a book stand in columns that had room for them and held nothing else
+pub record Listed (offers : List Offer) (lists : Columns) : Type 0 where
+  pub room : ℕ
+  pub enough : length offers ≤ room
+  pub read : ColumnsRead offers (length offers) (empty room) lists

@@ -22,3 +22,4 @@ pub mod Ways
 pub mod Filling
 pub mod Keys
 pub mod FilledRows
+pub mod Listing

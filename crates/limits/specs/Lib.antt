@@ -4,3 +4,4 @@ pub mod Flags
 pub mod Offers
 pub mod Rows
 pub mod Ranges
+pub mod Clearable

@@ -1,7 +1,6 @@
--- Offers as lists hold them: prices and quantities, and for the order of spare tenths the two halves of the time stamps and
--- the resource numbers.
+-- Offers as lists hold them: prices and quantities, which is all that the total and the price look at.
 -- Assumes nothing.
-use Prim.Native.Nat.{ℕ, _+_, _*_, _≤_, _<_}
+use Prim.Native.Nat.{ℕ, _≤_, _<_}
 use mathlib.Core.List.{List}
 use lib.ListN.{length, getD}
 use Rattle.auction.specs.Offers.{Offers}
@@ -24,15 +23,4 @@ listed prices quantities n =
       quantity = λ i. getD quantities i 0;
       stamp = λ i. 0;
       resource = λ i. 0;
-    }
-
--- the offers of five lists; a time stamp is its high half times 2 ^ 32 and its low half
-abbrev pub rowsOf : List ℕ → List ℕ → List ℕ → List ℕ → List ℕ → ℕ → Offers
-rowsOf prices quantities highs lows resources n =
-    record {
-      count = n;
-      price = λ i. getD prices i 0;
-      quantity = λ i. getD quantities i 0;
-      stamp = λ i. getD highs i 0 * 4294967296 + getD lows i 0;
-      resource = λ i. getD resources i 0;
     }

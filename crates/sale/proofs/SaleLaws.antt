@@ -1,43 +1,43 @@
--- What a sale over columns says: the total and the price by offers of price and quantity alone, and the sale of a book.
+-- What a sale over columns says: the total and the price by offers of price and quantity alone, and the sale of contents.
 --
 -- In order: the level at which a total stops, by its own total; the total and the price look at no stamp and no resource
--- number; a sale over the columns of a book is the book's sale.
+-- number; a sale over the columns of contents is theirs.
 -- Assumes nothing.
 use mathlib.Core.Path.{_≡_, refl, ap, sym, subst, _∙_}
 use mathlib.Core.List.{List}
 use Prim.Native.Nat.{ℕ, _≤_}
 use lib.ListN.{length}
-use Rattle.laws.specs.Filled.{filled}
 use Rattle.auction.specs.Offers.{Offers, supply}
 use Rattle.auction.specs.Clearing.{clearedTotal, nextPrice, clearingPrice}
+use Rattle.values.specs.Contents.{Contents}
 use Rattle.values.specs.declared.head.Parameters.{Parameters}
-use Rattle.curve.specs.Shape.{curve2026}
+use Rattle.region.specs.Region.{regionCurve}
 use Rattle.curve.specs.Price.{demandOf}
 use Rattle.curve.specs.declared.Curve.{Curve}
-use Rattle.curve.specs.declared.Terms.{Terms}
-use Rattle.market.specs.Rows.{RowLists, listed, rowsOf}
+use Rattle.market.specs.Rows.{RowLists, listed}
 use Rattle.market.specs.Stop.{StopsAt}
 use Rattle.market.specs.Price.{asPrice, priceAt}
 use Rattle.market.specs.declared.level.Level.{Level}
 use Rattle.market.specs.declared.price.ClearingPrice.{ClearingPrice}
 use Rattle.market.proofs.Agree.{price-agrees}
 use Rattle.shares.specs.Out.{SharedOut}
-use Rattle.columns.specs.Column.{highsOf, lowsOf}
-use Rattle.columns.specs.Columns.{Columns, empty, ColumnsRead}
-use Rattle.sale.specs.Auction.{termsOf, total, price, rowCleared}
-use Rattle.sale.specs.Sale.{Clearable, SoldColumns}
+use Rattle.columns.specs.Column.{rowsOf}
+use Rattle.columns.specs.Columns.{Columns}
+use Rattle.sale.specs.Auction.{total, price}
+use Rattle.sale.specs.Payment.{clearedList}
+use Rattle.sale.specs.Sale.{Stands, SoldColumns}
 use Rattle.sale.specs.declared.sell.Sale.{Sale}
 use Rattle.sale.proofs.Sales.{columns-offers, shared-cleared}
 
 pub stops-own : (o : Offers) (x : ℕ) (l : Level) → StopsAt o x l → StopsAt o (l .total) l
 stops-own o x l s = subst (λ (y : ℕ). StopsAt o y l) (sym (s .total)) s
 
-module _ (prices quantities highs lows resources : List ℕ) (n : ℕ) where
+module _ (prices quantities stamps resources : List ℕ) (n : ℕ) where
   abbrev few : Offers
   few = listed prices quantities n
 
   abbrev all : Offers
-  all = rowsOf prices quantities highs lows resources n
+  all = rowsOf prices quantities stamps resources n
 
   total-listed : (c : Curve) → clearedTotal (demandOf c) few ≡ clearedTotal (demandOf c) all
   unfolding clearedTotal supply
@@ -59,23 +59,23 @@ module _ (prices quantities highs lows resources : List ℕ) (n : ℕ) where
         amounts = subst (λ (y : ℕ). SharedOut all y before after) (s .total) shared;
       }
 
--- a sale over the columns of a book: X, the price, and what each row clears
-pub record SoldAs (b : List ℕ) (p : Parameters) (n : ℕ) (before : List ℕ) (s : Sale) (after : List ℕ) : Type 0 where
-  pub quantity : s .total ≡ total b p
-  pub quote : s .price ≡ asPrice (price b p)
-  pub amounts : after ≡ filled (rowCleared b p) n before
+-- a sale over the columns of contents: X, the price, and what each row clears
+pub record SoldAs (c : Contents) (before : List ℕ) (s : Sale) (after : List ℕ) : Type 0 where
+  pub quantity : s .total ≡ total c
+  pub quote : s .price ≡ asPrice (price c)
+  pub amounts : after ≡ clearedList c before
 
-pub sold-book : (b : List ℕ) (p : Parameters) (n : ℕ) (v : Columns) → Clearable b p n → ColumnsRead b n empty v
-    → (t : Terms) (c : Curve) → t ≡ termsOf p → c ≡ curve2026 t
+pub sold-contents : (c : Contents) (p : Parameters) (n : ℕ) (v : Columns) → Stands c p n v
+    → (curve : Curve) → curve ≡ regionCurve p
     → (before after : List ℕ) (s : Sale) → n ≤ length before
-    → SoldColumns c (rowsOf (v .prices) (v .quantities) (highsOf b n) (lowsOf b n) (v .resources) n) before s after
-    → SoldAs b p n before s after
+    → SoldColumns curve (rowsOf (v .prices) (v .quantities) (v .stamps) (v .resources) n) before s after
+    → SoldAs c before s after
 unfolding total price
-sold-book b p n v ok read t c e f before after s long sold =
-    let same : c ≡ curve2026 (termsOf p) = f ∙ ap curve2026 e in
-    let x : s .total ≡ total b p = sold .quantity ∙ rw (same, columns-offers b p n v ok read) in
+sold-contents c p n v stands curve f before after s long sold =
+    let same : curve ≡ regionCurve (c .parameters) = f ∙ ap regionCurve (stands .own) in
+    let x : s .total ≡ total c = sold .quantity ∙ rw (same, columns-offers c p n v stands) in
     record {
       quantity = x;
-      quote = sold .quote ∙ rw (same, columns-offers b p n v ok read);
-      amounts = shared-cleared b p n v ok read (s .total) before after long x (sold .amounts);
+      quote = sold .quote ∙ rw (same, columns-offers c p n v stands);
+      amounts = shared-cleared c p n v stands (s .total) before after long x (sold .amounts);
     }

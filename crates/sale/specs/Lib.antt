@@ -1,3 +1,3 @@
 pub mod Auction
-pub mod Sale
 pub mod Payment
+pub mod Sale

@@ -1,28 +1,29 @@
--- The clearing of a book's rows under parameters, and what it leaves in the lists of cleared and committed tenths.
+-- The clearing of what a book says, and what it leaves in the lists of cleared and committed tenths.
 -- Assumes nothing.
-use Prim.Native.Nat.{ℕ}
 use mathlib.Core.Path.{_≡_}
 use mathlib.Core.List.{List}
+use Prim.Native.Nat.{ℕ}
+use lib.ListN.{length}
 use Rattle.laws.specs.Filled.{filled}
-use Rattle.values.specs.declared.head.Parameters.{Parameters}
+use Rattle.values.specs.Contents.{Contents}
 use Rattle.market.specs.Price.{asPrice}
 use Rattle.sale.specs.Auction.{total, price, rowCleared, rowCommitted, allMakeWhole, dailyTotal, yearTotal}
 use Rattle.sale.specs.declared.Clearing.{Clearing}
 
--- the clearing of the rows of a book under parameters
-unfoldable pub clearingOf : List ℕ → Parameters → Clearing
-clearingOf b p =
+-- the clearing of contents
+unfoldable pub clearingOf : Contents → Clearing
+clearingOf c =
     record {
-      total = total b p;
-      price = asPrice (price b p);
-      «make_whole» = allMakeWhole b p;
-      daily = dailyTotal b p;
-      year = yearTotal b p;
+      total = total c;
+      price = asPrice (price c);
+      «make_whole» = allMakeWhole c;
+      daily = dailyTotal c;
+      year = yearTotal c;
     }
 
--- the clearing of n rows, with what each clears and commits in two lists whose other entries stay
-pub record ClearedAs (b : List ℕ) (p : Parameters) (n : ℕ) (cleared committed : List ℕ) (c : Clearing)
-    (cleared′ committed′ : List ℕ) : Type 0 where
-  pub clearing : c ≡ clearingOf b p
-  pub cleared-holds : cleared′ ≡ filled (rowCleared b p) n cleared
-  pub committed-holds : committed′ ≡ filled (rowCommitted b p) n committed
+-- a list with what each row clears, and one with what each commits; entries past the last row are not touched
+unfoldable pub clearedList : Contents → List ℕ → List ℕ
+clearedList c before = filled (rowCleared c) (length (c .offers)) before
+
+unfoldable pub committedList : Contents → List ℕ → List ℕ
+committedList c before = filled (rowCommitted c) (length (c .offers)) before

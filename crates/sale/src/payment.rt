@@ -1,8 +1,7 @@
-// What the rows of a book clear and commit, and what is paid.
+// What rows clear and commit, and what is paid.
 use crate::Clearing;
 use crate::sell::sell;
-use crate::terms_of;
-use curve::points_2026;
+use region::region_curve;
 use settle::commit;
 use settle::mills_of;
 use values::head::Parameters;
@@ -10,9 +9,9 @@ ghost use mathlib.Core.Path.{_≡_};
 ghost use Prim.Native.Nat.{_≤_};
 ghost use lib.ListN.{length};
 ghost use Rattle.auction.specs.Settlement.{daysOf};
-ghost use Rattle.columns.specs.Columns.{columnsOf, empty, ColumnsRead};
-ghost use Rattle.sale.specs.Sale.{Clearable};
-ghost use Rattle.sale.specs.Payment.{ClearedAs};
+ghost use Rattle.values.specs.Contents.{Contents};
+ghost use Rattle.columns.specs.Columns.{columnsOf};
+ghost use Rattle.sale.specs.Sale.{Stands, SomeStand, ClearedAs};
 
 // The number of days of the delivery year that starts in a calendar year.
 pub fn days_of(year: u32) -> u64
@@ -21,25 +20,34 @@ pub fn days_of(year: u32) -> u64
     365
 }
 
-// What n rows of a book clear under parameters, with each row's cleared and committed tenths. The rows stand in the columns.
+// What n rows clear under parameters, with each row's cleared and committed tenths: the clearing of whatever contents stand in
+// the columns.
 pub fn clearing(
-    book: &[u8],
     p: Parameters,
     n: usize,
     prices: &[u32],
     quantities: &[u32],
     leasts: &[u32],
     resources: &[u32],
+    stamps: &[u64],
     cleared: &mut [u32],
     committed: &mut [u32],
 ) -> Clearing
-    requires { ⌜ Clearable (now book) p n ⌝ }
-    requires { ⌜ ColumnsRead (now book) n empty (columnsOf (now prices) (now quantities) (now leasts) (now resources)) ⌝ }
+    requires { ⌜ SomeStand p n (columnsOf (now prices) (now quantities) (now leasts) (now resources) (now stamps)) ⌝ }
     requires { ⌜ (n ≤ length (now cleared)) × (n ≤ length (now committed)) ⌝ }
-    ensures { λ r. ⌜ ClearedAs (now (book .entry)) p n (now (cleared .entry)) (now (committed .entry)) r (now (cleared .exit)) (now (committed .exit)) ⌝ }
+    ensures { λ r. ⌜ (c : Contents)
+        → Stands c p n (columnsOf (now (prices .entry)) (now (quantities .entry)) (now (leasts .entry)) (now (resources .entry)) (now (stamps .entry)))
+        → ClearedAs c (now (cleared .entry)) (now (committed .entry)) r (now (cleared .exit)) (now (committed .exit)) ⌝ }
 {
-    let c = points_2026(terms_of(p));
-    let sale = sell(c, book, prices, quantities, resources, n, cleared);
+    let sale = sell(
+        region_curve(p),
+        prices,
+        quantities,
+        resources,
+        stamps,
+        n,
+        cleared,
+    );
     let past = commit(leasts, cleared, n, committed);
     let price = sale.price;
     let make_whole = mills_of(price, past);

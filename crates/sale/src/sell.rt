@@ -7,9 +7,8 @@ use shares::share_out;
 ghost use Prim.Native.Nat.{_≤_};
 ghost use lib.ListN.{length};
 ghost use Rattle.curve.specs.Shape.{Shaped};
-ghost use Rattle.market.specs.Rows.{RowLists, rowsOf};
-ghost use Rattle.layout.specs.Read.{Inside};
-ghost use Rattle.columns.specs.Column.{highsOf, lowsOf};
+ghost use Rattle.market.specs.Rows.{RowLists};
+ghost use Rattle.columns.specs.Column.{rowsOf};
 ghost use Rattle.shares.specs.Out.{Ordered};
 ghost use Rattle.sale.specs.Sale.{SoldColumns};
 
@@ -22,21 +21,19 @@ pub struct Sale {
 // The sale of n rows on a curve, with what each row clears.
 pub(crate) fn sell(
     c: Curve,
-    book: &[u8],
     prices: &[u32],
     quantities: &[u32],
     resources: &[u32],
+    stamps: &[u64],
     n: usize,
     amounts: &mut [u32],
 ) -> Sale
-    requires { ⌜ Shaped c × Inside (now book) n ⌝ }
-    requires { ⌜ RowLists (now prices) (now quantities) n ⌝ }
-    requires { ⌜ Ordered (now quantities) (highsOf (now book) n) (lowsOf (now book) n) (now resources) n ⌝ }
-    requires { ⌜ n ≤ length (now amounts) ⌝ }
-    ensures { λ r. ⌜ SoldColumns c (rowsOf (now (prices .entry)) (now (quantities .entry)) (highsOf (now (book .entry)) n) (lowsOf (now (book .entry)) n) (now (resources .entry)) n) (now (amounts .entry)) r (now (amounts .exit)) ⌝ }
+    requires { ⌜ Shaped c × RowLists (now prices) (now quantities) n ⌝ }
+    requires { ⌜ Ordered (now quantities) (now stamps) (now resources) n × (n ≤ length (now amounts)) ⌝ }
+    ensures { λ r. ⌜ SoldColumns c (rowsOf (now (prices .entry)) (now (quantities .entry)) (now (stamps .entry)) (now (resources .entry)) n) (now (amounts .entry)) r (now (amounts .exit)) ⌝ }
 {
     let level = cleared_level(c, prices, quantities, n);
-    share_out(book, prices, quantities, resources, n, level, amounts);
+    share_out(prices, quantities, resources, stamps, n, level, amounts);
     Sale {
         total: level.total,
         price: clearing_price(c, level),

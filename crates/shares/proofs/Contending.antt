@@ -3,7 +3,7 @@
 -- In order: a row's key is what its remainder leaves of the level's sum; the keys' order is the order of spare tenths; who
 -- wins the contest; what a row clears.
 -- Assumes nothing.
-use mathlib.Core.Path.{_≡_, refl, sym, ap, _∙_}
+use mathlib.Core.Path.{_≡_, refl, sym, ap, ap₂, _∙_}
 use mathlib.Core.Bool.{Bool, true, false, cond, _&&_, _||_}
 use mathlib.Core.List.{List}
 use Prim.Native.Nat.{ℕ, _+_, _*_, _%_, _<_}
@@ -19,11 +19,12 @@ use Rattle.laws.proofs.Orders.{byKey, thenBy}
 use Rattle.laws.proofs.Keys.{thenBy-rest, thenBy-halves}
 use Rattle.auction.specs.Offers.{Offers}
 use Rattle.auction.specs.Shares.{weighted, shareDown, remainder, spareTenths, ahead, rank, cleared}
+use Rattle.columns.specs.Column.{rowsOf}
 use Rattle.market.specs.declared.level.Level.{Level}
-use Rattle.market.specs.Rows.{rowsOf}
 use Rattle.contest.specs.Contest.{wins, contenders, inOrder}
 use Rattle.contest.proofs.Winning.{wins-contenders}
 use Rattle.shares.specs.Parts.{keyOf, rowKey}
+use Rattle.shares.specs.Halves.{highHalf, lowHalf}
 use Rattle.shares.specs.Steps.{Stopped}
 use Rattle.shares.proofs.RowParts.{key-at}
 use Rattle.shares.proofs.Sharing.{stop-some, spares-away, cleared-down}
@@ -48,14 +49,15 @@ standing-test : (t : Bool) → eqb (cond t 1 0) 1 ≡ t
 standing-test true = refl
 standing-test false = refl
 
-module _ (prices quantities highs lows resources : List ℕ) (n : ℕ) (l : Level) where
+module _ (prices quantities stamps resources : List ℕ) (n : ℕ) (l : Level) where
   abbrev rows : Offers
-  rows = rowsOf prices quantities highs lows resources n
+  rows = rowsOf prices quantities stamps resources n
 
   abbrev atStop : ℕ → Bool
   atStop i = eqb (getD prices i 0) (l .price)
 
-  module _ (s : Stopped rows l) (halves : (i : ℕ) → i < n → getD lows i 0 < 4294967296)
+  module _ (s : Stopped rows l) (highs lows : List ℕ)
+      (halves : (i : ℕ) → i < n → (getD highs i 0 ≡ highHalf stamps i) × (getD lows i 0 ≡ lowHalf stamps i))
       (keys : List ℕ) (keyed : (i : ℕ) → i < n → getD keys i 0 ≡ rowKey l prices quantities i) where
     abbrev keyOrder : ℕ → ℕ → Bool
     keyOrder = inOrder keys highs lows resources
@@ -69,13 +71,26 @@ module _ (prices quantities highs lows resources : List ℕ) (n : ℕ) (l : Leve
     key-left : (i : ℕ) → i < n → atStop i ≡ true → key i + remainder rows (l .total) i ≡ l .sum
     key-left i k at = rw (keyed i k) (key-remainder rows l s i k (eqb-true _ _ at))
 
+    low-small : (i : ℕ) → i < n → getD lows i 0 < 4294967296
+    low-small i k = omega (arith, halves i k .1)
+
+    -- two halves make the stamp
+    whole : (i : ℕ) → i < n → getD highs i 0 * 4294967296 + getD lows i 0 ≡ getD stamps i 0
+    whole i k = omega (arith, halves i k .0, halves i k .1)
+
+    -- so their order is that of the stamps
+    order-halves : (j i : ℕ) → j < n → i < n
+        → thenBy (λ q. getD highs q 0) (thenBy (λ q. getD lows q 0) byResource) j i ≡ thenBy (rows .stamp) byResource j i
+    order-halves j i h k =
+        sym (thenBy-halves (λ q. getD highs q 0) (λ q. getD lows q 0) byResource j i (low-small j h) (low-small i k))
+        ∙ ap₂ (λ (a b : ℕ). ltb a b || (eqb a b && byResource j i)) (whole j h) (whole i k)
+
     -- among the rows of the level the keys' order is the order of spare tenths
     order-ahead : (j i : ℕ) → j < n → i < n → atStop j ≡ true → atStop i ≡ true
         → keyOrder j i ≡ ahead rows (l .total) j i
     unfolding ahead
     order-ahead j i h k at-j at-i =
-        let halved = thenBy-halves (λ q. getD highs q 0) (λ q. getD lows q 0) byResource j i (halves j h) (halves i k) in
-        ap (λ (r : Bool). ltb (key j) (key i) || (eqb (key j) (key i) && r)) (sym halved)
+        ap (λ (r : Bool). ltb (key j) (key i) || (eqb (key j) (key i) && r)) (order-halves j i h k)
         ∙ thenBy-rest key (remainder rows (l .total)) (thenBy (rows .stamp) byResource) (l .sum) j i
         (key-left j h at-j)
         (key-left i k at-i)

@@ -16,7 +16,8 @@ use Rattle.auction.specs.Offers.{Offers, supply, supplyBelow, levelSum}
 use Rattle.auction.specs.Shares.{levelAmount}
 use Rattle.auction.proofs.LevelDivision.{levelAmount-most}
 use Rattle.market.specs.declared.level.Level.{Level}
-use Rattle.market.specs.Rows.{RowLists, listed, rowsOf}
+use Rattle.columns.specs.Column.{rowsOf}
+use Rattle.market.specs.Rows.{RowLists, listed}
 use Rattle.market.specs.Stop.{StopsAt, stopLevel}
 use Rattle.shares.specs.Out.{Ordered}
 use Rattle.shares.specs.Steps.{Stopped, DividesRows}
@@ -39,16 +40,16 @@ level-low prices quantities n p r =
       r .few,
     )
 
-module _ (prices quantities highs lows resources : List ℕ) (n : ℕ) (l : Level) where
+module _ (prices quantities stamps resources : List ℕ) (n : ℕ) (l : Level) where
   abbrev rows : Offers
-  rows = rowsOf prices quantities highs lows resources n
+  rows = rowsOf prices quantities stamps resources n
 
   -- a total of rows stops where a total of their prices and quantities does
   stops-rows : StopsAt (listed prices quantities n) (l .total) l → StopsAt rows (l .total) l
   unfolding stopLevel levelAmount supply supplyBelow levelSum
   stops-rows s = record { total = s .total; price = s .price; amount = s .amount; sum = s .sum; reach = s .reach }
 
-  module _ (r : RowLists prices quantities n) (o : Ordered quantities highs lows resources n)
+  module _ (r : RowLists prices quantities n) (o : Ordered quantities stamps resources n)
       (s : StopsAt (listed prices quantities n) (l .total) l) where
     -- the rows, with their stamps and resources, are offers of which a total stops at the level
     pub rows-stopped : Stopped rows l

@@ -17,7 +17,8 @@ use Rattle.auction.specs.Offers.{Offers, levelSum}
 use Rattle.auction.specs.Shares.{levelAmount, shareDown, spareTenths}
 use Rattle.auction.proofs.Spares.{spares-rest}
 use Rattle.market.specs.declared.level.Level.{Level}
-use Rattle.market.specs.Rows.{RowLists, listed, rowsOf}
+use Rattle.columns.specs.Column.{rowsOf}
+use Rattle.market.specs.Rows.{RowLists, listed}
 use Rattle.shares.specs.Steps.{Stopped, DividesRows, HoldsParts}
 use Rattle.shares.proofs.RowParts.{part-most}
 use Rattle.shares.proofs.Sharing.{downs, part-share}
@@ -51,9 +52,9 @@ parts-rows prices quantities n l d shares h =
       cheap = d .rows .cheap;
     }
 
-module _ (prices quantities highs lows resources : List ℕ) (n : ℕ) (l : Level) where
+module _ (prices quantities stamps resources : List ℕ) (n : ℕ) (l : Level) where
   abbrev rows : Offers
-  rows = rowsOf prices quantities highs lows resources n
+  rows = rowsOf prices quantities stamps resources n
 
   module _ (s : Stopped rows l) (shares : List ℕ) (h : HoldsParts l prices quantities n shares) where
     held-downs : levelSum (listed prices shares n) (l .price) ≡ downs rows (l .total) (l .price)

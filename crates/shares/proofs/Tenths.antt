@@ -11,11 +11,12 @@ use Rattle.laws.specs.Filled.{filled}
 use Rattle.laws.proofs.Fills.{filled-ext}
 use Rattle.auction.specs.Offers.{Offers}
 use Rattle.auction.specs.Shares.{cleared}
+use Rattle.columns.specs.Column.{rowsOf}
 use Rattle.market.specs.declared.level.Level.{Level}
-use Rattle.market.specs.Rows.{rowsOf}
 use Rattle.contest.specs.Contest.{wins, contenders, inOrder}
 use Rattle.contest.specs.Award.{Awarded}
 use Rattle.shares.specs.Parts.{rowKey, rowStanding}
+use Rattle.shares.specs.Halves.{highHalf, lowHalf}
 use Rattle.shares.specs.Steps.{SparesDue, Adds}
 use Rattle.shares.proofs.Sharing.{part-share}
 use Rattle.shares.proofs.Holding.{parts-rows}
@@ -29,12 +30,12 @@ bit-most false = zero-le
 pub standing-most : (t : Bool) (v : ℕ) → v ≡ cond t 1 0 → v ≤ 1
 standing-most t v e = rw e (bit-most t)
 
-module _ (prices quantities highs lows resources : List ℕ) (n : ℕ) (l : Level) where
+module _ (prices quantities stamps resources : List ℕ) (n : ℕ) (l : Level) where
   abbrev rows : Offers
-  rows = rowsOf prices quantities highs lows resources n
+  rows = rowsOf prices quantities stamps resources n
 
-  module _ (spare : ℕ) (out : List ℕ) (p : SparesDue prices quantities highs lows resources n l spare out)
-      (keys standings tenths : List ℕ) (won : Awarded keys highs lows resources standings n spare tenths) where
+  module _ (spare : ℕ) (out : List ℕ) (p : SparesDue prices quantities stamps resources n l spare out)
+      (highs lows keys standings tenths : List ℕ) (won : Awarded keys highs lows resources standings n spare tenths) where
     -- a row's part and the tenth that it may have won fit
     pub won-adds : n ≤ length tenths → Adds tenths n out
     won-adds h =
@@ -51,7 +52,8 @@ module _ (prices quantities highs lows resources : List ℕ) (n : ℕ) (l : Leve
         }
 
     -- the parts and the tenths won are what clears
-    pub won-cleared : (after : List ℕ) → ((i : ℕ) → i < n → getD lows i 0 < 4294967296)
+    pub won-cleared : (after : List ℕ)
+        → ((i : ℕ) → i < n → (getD highs i 0 ≡ highHalf stamps i) × (getD lows i 0 ≡ lowHalf stamps i))
         → ((i : ℕ) → i < n → getD keys i 0 ≡ rowKey l prices quantities i)
         → ((i : ℕ) → i < n → getD standings i 0 ≡ rowStanding l prices i)
         → after ≡ filled (λ i. getD out i 0 + getD tenths i 0) n out → after ≡ filled (cleared rows (l .total)) n out
@@ -61,4 +63,4 @@ module _ (prices quantities highs lows resources : List ℕ) (n : ℕ) (l : Leve
         ∙ filled-ext _ _ n out
         (λ i h.
         ap₂ _+_ (p .holds .row i h ∙ part-share rows l s i h) (won .within i h)
-        ∙ cleared-won prices quantities highs lows resources n l s halves keys keyed standings spare standing (p .tenths) i h)
+        ∙ cleared-won prices quantities stamps resources n l s highs lows halves keys keyed standings spare standing (p .tenths) i h)

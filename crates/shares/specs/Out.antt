@@ -14,8 +14,7 @@ pub record SharedOut (o : Offers) (x : ℕ) (before after : List ℕ) : Type 0 w
   pub past : (i : ℕ) → o .count ≤ i → getD after i 0 ≡ getD before i 0
 
 -- the lists that order the rows for the spare tenths are long enough, and every row offers something
-pub record Ordered (quantities highs lows resources : List ℕ) (n : ℕ) : Type 0 where
-  pub highs-long : n ≤ length highs
-  pub lows-long : n ≤ length lows
+pub record Ordered (quantities stamps resources : List ℕ) (n : ℕ) : Type 0 where
+  pub stamps-long : n ≤ length stamps
   pub resources-long : n ≤ length resources
   pub positive : (i : ℕ) → i < n → 0 < getD quantities i 0

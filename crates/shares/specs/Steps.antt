@@ -6,7 +6,8 @@ use mathlib.Core.List.{List}
 use lib.ListN.{length, getD}
 use Rattle.auction.specs.Offers.{Offers}
 use Rattle.auction.specs.Shares.{spareTenths}
-use Rattle.market.specs.Rows.{RowLists, rowsOf}
+use Rattle.columns.specs.Column.{rowsOf}
+use Rattle.market.specs.Rows.{RowLists}
 use Rattle.market.specs.Stop.{StopsAt}
 use Rattle.market.specs.declared.level.Level.{Level}
 use Rattle.shares.specs.Out.{Ordered}
@@ -36,13 +37,13 @@ pub record Stopped (o : Offers) (l : Level) : Type 0 where
   pub positive : (i : ℕ) → i < o .count → 0 < o .quantity i
 
 -- n rows that hold their parts, and the spare tenths of their level
-pub record SparesDue (prices quantities highs lows resources : List ℕ) (n : ℕ) (l : Level) (spare : ℕ) (out : List ℕ) :
+pub record SparesDue (prices quantities stamps resources : List ℕ) (n : ℕ) (l : Level) (spare : ℕ) (out : List ℕ) :
     Type 0 where
   pub divides : DividesRows l prices quantities n
-  pub ordered : Ordered quantities highs lows resources n
-  pub stopped : Stopped (rowsOf prices quantities highs lows resources n) l
+  pub ordered : Ordered quantities stamps resources n
+  pub stopped : Stopped (rowsOf prices quantities stamps resources n) l
   pub holds : HoldsParts l prices quantities n out
-  pub tenths : spare ≡ spareTenths (rowsOf prices quantities highs lows resources n) (l .total) (l .price)
+  pub tenths : spare ≡ spareTenths (rowsOf prices quantities stamps resources n) (l .total) (l .price)
 
 -- to each of n entries a number can be added within 32 bits
 pub record Adds (tenths : List ℕ) (n : ℕ) (out : List ℕ) : Type 0 where

@@ -11,9 +11,8 @@ ghost use mathlib.Core.Path.{_≡_};
 ghost use Prim.Native.Nat.{_≤_};
 ghost use lib.ListN.{length};
 ghost use Rattle.auction.specs.Offers.{levelSum};
-ghost use Rattle.layout.specs.Read.{Inside};
-ghost use Rattle.columns.specs.Column.{highsOf, lowsOf};
-ghost use Rattle.market.specs.Rows.{RowLists, listed, rowsOf};
+ghost use Rattle.columns.specs.Column.{rowsOf};
+ghost use Rattle.market.specs.Rows.{RowLists, listed};
 ghost use Rattle.market.specs.Stop.{StopsAt};
 ghost use Rattle.shares.specs.Out.{SharedOut, Ordered};
 
@@ -27,23 +26,22 @@ fn held_at(prices: &[u32], shares: &[u32], n: usize, price: u32) -> u32
 
 // Writes what each of n rows clears of the total that stops at the level, and leaves what stands past them.
 pub fn share_out(
-    book: &[u8],
     prices: &[u32],
     quantities: &[u32],
     resources: &[u32],
+    stamps: &[u64],
     n: usize,
     level: Level,
     out: &mut [u32],
 )
-    requires { ⌜ Inside (now book) n × RowLists (now prices) (now quantities) n ⌝ }
-    requires { ⌜ Ordered (now quantities) (highsOf (now book) n) (lowsOf (now book) n) (now resources) n ⌝ }
+    requires { ⌜ RowLists (now prices) (now quantities) n × Ordered (now quantities) (now stamps) (now resources) n ⌝ }
     requires { ⌜ n ≤ length (now out) ⌝ }
     requires { ⌜ StopsAt (listed (now prices) (now quantities) n) (level .total) level ⌝ }
-    ensures { λ _. ⌜ SharedOut (rowsOf (now (prices .entry)) (now (quantities .entry)) (highsOf (now (book .entry)) n) (lowsOf (now (book .entry)) n) (now (resources .entry)) n) (level .total) (now (out .entry)) (now (out .exit)) ⌝ }
+    ensures { λ _. ⌜ SharedOut (rowsOf (now (prices .entry)) (now (quantities .entry)) (now (stamps .entry)) (now (resources .entry)) n) (level .total) (now (out .entry)) (now (out .exit)) ⌝ }
 {
     parts(prices, quantities, n, level, out);
     let spare = level.amount - held_at(prices, out, n, level.price);
     if 0 < spare {
-        give(book, prices, quantities, resources, n, level, spare, out);
+        give(prices, quantities, resources, stamps, n, level, spare, out);
     }
 }

@@ -1,18 +1,16 @@
 // The spare tenths of the level at which a total stops: one each to the first in the order.
 use crate::share::exact;
-use columns::read_stamps;
 use contest::award;
 use market::level::Level;
 ghost use mathlib.Core.Path.{_≡_};
 ghost use mathlib.Core.Bool.{cond};
-ghost use Prim.Native.Nat.{_+_, _≤_};
+ghost use Prim.Native.Nat.{_+_, _/_, _%_, _≤_};
 ghost use lib.ListN.{length, getD};
 ghost use lib.Dec.{eqb};
 ghost use Rattle.laws.specs.Filled.{filled};
 ghost use Rattle.auction.specs.Shares.{cleared};
-ghost use Rattle.layout.specs.Read.{Inside};
-ghost use Rattle.columns.specs.Column.{highsOf, lowsOf};
-ghost use Rattle.market.specs.Rows.{rowsOf};
+ghost use Rattle.columns.specs.Column.{rowsOf};
+ghost use Rattle.shares.specs.Halves.{highHalf, lowHalf};
 ghost use Rattle.shares.specs.Parts.{partOf, keyOf, rowKey, rowStanding};
 ghost use Rattle.shares.specs.Steps.{Divides, DividesRows, HoldsParts, SparesDue, Adds};
 
@@ -68,26 +66,54 @@ fn add(tenths: &[u32], n: usize, out: &mut [u32])
     }
 }
 
-// Gives the level's spare tenths, one each to the first in the order. Only here are the time stamps read.
+// How many numbers a half of a time stamp can be.
+const HALF: u64 = 4294967296;
+
+// The upper half of a time stamp.
+fn high_half(stamp: u64) -> u32
+    ensures { λ r. ⌜ r ≡ stamp / 4294967296 ⌝ }
+{
+    (stamp / HALF) as u32
+}
+
+// The lower half of a time stamp.
+fn low_half(stamp: u64) -> u32
+    ensures { λ r. ⌜ r ≡ stamp % 4294967296 ⌝ }
+{
+    (stamp % HALF) as u32
+}
+
+// Parts the time stamps of n rows into their halves, the upper of which is compared first.
+fn halve(stamps: &[u64], n: usize, highs: &mut [u32], lows: &mut [u32])
+    requires { ⌜ (n ≤ length (now stamps)) × (n ≤ length (now highs)) × (n ≤ length (now lows)) ⌝ }
+    ensures { λ _. ⌜ now (highs .exit) ≡ filled (highHalf (now (stamps .entry))) n (now (highs .entry)) ⌝ }
+    ensures { λ _. ⌜ now (lows .exit) ≡ filled (lowHalf (now (stamps .entry))) n (now (lows .entry)) ⌝ }
+{
+    for row in 0..n {
+        highs[row] = high_half(stamps[row]);
+        lows[row] = low_half(stamps[row]);
+    }
+}
+
+// Gives the level's spare tenths, one each to the first in the order.
 pub fn give(
-    book: &[u8],
     prices: &[u32],
     quantities: &[u32],
     resources: &[u32],
+    stamps: &[u64],
     n: usize,
     level: Level,
     spare: u32,
     out: &mut [u32],
 )
-    requires { ⌜ Inside (now book) n ⌝ }
-    requires { ⌜ SparesDue (now prices) (now quantities) (highsOf (now book) n) (lowsOf (now book) n) (now resources) n level spare (now out) ⌝ }
-    ensures { λ _. ⌜ now (out .exit) ≡ filled (cleared (rowsOf (now (prices .entry)) (now (quantities .entry)) (highsOf (now (book .entry)) n) (lowsOf (now (book .entry)) n) (now (resources .entry)) n) (level .total)) n (now (out .entry)) ⌝ }
+    requires { ⌜ SparesDue (now prices) (now quantities) (now stamps) (now resources) n level spare (now out) ⌝ }
+    ensures { λ _. ⌜ now (out .exit) ≡ filled (cleared (rowsOf (now (prices .entry)) (now (quantities .entry)) (now (stamps .entry)) (now (resources .entry)) n) (level .total)) n (now (out .entry)) ⌝ }
 {
     let mut highs = [0u32; 600];
     let mut lows = [0u32; 600];
     let mut keys = [0u32; 600];
     let mut standings = [0u32; 600];
-    read_stamps(book, n, &mut highs, &mut lows);
+    halve(stamps, n, &mut highs, &mut lows);
     line_up(prices, quantities, out, n, level, &mut keys, &mut standings);
     award(&keys, &highs, &lows, resources, &mut standings, n, spare);
     add(&standings, n, out);

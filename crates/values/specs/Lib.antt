@@ -2,3 +2,4 @@ pub mod Values
 pub mod Head
 pub mod Place
 pub mod Refusals
+pub mod Contents

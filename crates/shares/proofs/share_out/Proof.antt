@@ -10,8 +10,7 @@ use Rattle.laws.proofs.Filling.{length-filling}
 use Rattle.laws.proofs.FilledRows.{filled-row}
 use Rattle.auction.specs.Offers.{Offers}
 use Rattle.auction.specs.Shares.{spareTenths}
-use Rattle.market.specs.Rows.{rowsOf}
-use Rattle.columns.specs.Column.{highsOf, lowsOf}
+use Rattle.columns.specs.Column.{rowsOf}
 use Rattle.shares.specs.Steps.{Stopped, DividesRows, HoldsParts}
 use Rattle.shares.proofs.Given.{rows-stopped, rows-divide}
 use Rattle.shares.proofs.Holding.{parts-rows, held-spare}
@@ -22,13 +21,13 @@ use Rattle.shares.proofs.share_out.Tie as tie
 abbrev rows : tie.Start → Offers
 rows s =
     let a = s .args in
-    rowsOf (a .prices .now) (a .quantities .now) (highsOf (a .book .now) (a .n)) (lowsOf (a .book .now) (a .n)) (a .resources .now) (a .n)
+    rowsOf (a .prices .now) (a .quantities .now) (a .stamps .now) (a .resources .now) (a .n)
 
 stopped : (s : tie.Start) → Stopped (rows s) (s .args .level)
-stopped s = rows-stopped _ _ _ _ _ _ _ (s .pre .0 .1) (s .pre .1 .0) (s .pre .1 .1 .1)
+stopped s = rows-stopped _ _ _ _ _ _ (s .pre .0 .0) (s .pre .0 .1) (s .pre .1 .1)
 
 divides : (s : tie.Start) → DividesRows (s .args .level) (s .args .prices .now) (s .args .quantities .now) (s .args .n)
-divides s = rows-divide _ _ _ _ _ _ _ (s .pre .0 .1) (s .pre .1 .0) (s .pre .1 .1 .1)
+divides s = rows-divide _ _ _ _ _ _ (s .pre .0 .0) (s .pre .0 .1) (s .pre .1 .1)
 
 parts-requires : tie.Need-parts-requires
 parts-requires c κs = (divides (c .before .before .before .before .before .before), search needs)
@@ -43,7 +42,7 @@ parted c = c .parts .last .1 .1 .1 .1 .0
 holds : (c : tie.After-parts) → let a = entry c .args in
     HoldsParts (a .level) (a .prices .now) (a .quantities .now) (a .n) (parted c)
 holds c =
-    let long = entry c .pre .1 .1 .0 in
+    let long = entry c .pre .1 .0 in
     let same = length-filling _ _ _ (c .parts .ensures) in
     record { long = rw same long; row = filled-row _ _ _ (c .parts .ensures) long }
 
@@ -59,7 +58,7 @@ spares : (c : tie.After-held-at) → let s = entry (c .before .before .before .b
 spares c =
     let p = c .before .before .before .before in
     let a = entry p .args in
-    held-spare _ _ (highsOf (a .book .now) (a .n)) (lowsOf (a .book .now) (a .n)) (a .resources .now) _ _ (stopped (entry p)) (parted p) (holds p) _
+    held-spare _ _ (a .stamps .now) (a .resources .now) _ _ (stopped (entry p)) (parted p) (holds p) _
     (c .held-at .ensures)
 
 sub-spare : tie.Need-sub-spare
@@ -70,7 +69,7 @@ give-requires c κs =
     let h = c .before .before .before in
     let p = h .before .before .before .before in
     let s = entry p in
-    (s .pre .0 .0, record { divides = divides s; ordered = s .pre .1 .0; stopped = stopped s; holds = holds p; tenths = spares h .1 })
+    record { divides = divides s; ordered = s .pre .0 .1; stopped = stopped s; holds = holds p; tenths = spares h .1 }
 
 same-length : tie.Need-same-length
 same-length c = search needs
@@ -78,7 +77,7 @@ same-length c = search needs
 returns : tie.Need-returns
 returns c =
     let p = c .before .before .before .before .before .before .before .before .before .before in
-    given-shared (rows (entry p)) _ _ _ _ (entry p .pre .1 .1 .0) (p .parts .ensures) (c .before .before .give .ensures)
+    given-shared (rows (entry p)) _ _ _ _ (entry p .pre .1 .0) (p .parts .ensures) (c .before .before .give .ensures)
 
 same-length-2 : tie.Need-same-length-2
 same-length-2 c = search needs
@@ -87,7 +86,7 @@ returns-2 : tie.Need-returns-2
 returns-2 c =
     let p = c .before .before .before .before .before .before in
     let s = entry p in
-    parts-shared (rows s) _ _ (stopped s) (s .pre .1 .1 .0) (p .parts .ensures) (sym (spares (c .before .before) .1) ∙ omega arith)
+    parts-shared (rows s) _ _ (stopped s) (s .pre .1 .0) (p .parts .ensures) (sym (spares (c .before .before) .1) ∙ omega arith)
 
 pub share-out-spec : {M : Type 1} → statement M
 share-out-spec =

@@ -1,7 +1,6 @@
 -- `sell` sells the rows of columns on a curve.
 -- Assumes nothing.
 use borrow.Author.Needs.{needs}
-use Rattle.columns.specs.Column.{highsOf, lowsOf}
 use Rattle.sale.proofs.SaleLaws.{stops-own, sold-columns}
 use Rattle.sale.proofs.sell.sell.Statement.{statement}
 use Rattle.sale.proofs.sell.sell.Tie as tie
@@ -13,7 +12,7 @@ share-out-requires : tie.Need-share-out-requires
 share-out-requires c κs =
     let start = c .before .before .before .before .before .before .before in (
       (start .pre .0 .1, start .pre .1 .0),
-      (start .pre .1 .1 .0, (start .pre .1 .1 .1, stops-own _ _ _ (c .before .cleared-level .ensures .0))),
+      (start .pre .1 .1, stops-own _ _ _ (c .before .cleared-level .ensures .0)),
     )
 
 clearing-price-requires : tie.Need-clearing-price-requires
@@ -27,8 +26,8 @@ returns c =
     let start = c .before .before .before .before .before .before .before .before .before .before .before in
     let a = start .args in
     let stops = c .before .before .before .before .before .cleared-level .ensures .0 in
-    sold-columns (a .prices .now) (a .quantities .now) (highsOf (a .book .now) (a .n)) (lowsOf (a .book .now) (a .n)) (a .resources .now)
-    _ _ _ _ _ _ _ (start .pre .1 .0) (stops .total) (stops-own _ _ _ stops) (c .clearing-price .ensures)
+    sold-columns (a .prices .now) (a .quantities .now) (a .stamps .now) (a .resources .now)
+    _ _ _ _ _ _ _ (start .pre .0 .1) (stops .total) (stops-own _ _ _ stops) (c .clearing-price .ensures)
     (c .before .before .before .share-out .ensures)
 
 pub sell-spec : {M : Type 1} → statement M

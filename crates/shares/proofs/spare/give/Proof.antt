@@ -1,6 +1,6 @@
 -- `shares::spare::give` gives the spare tenths: the contest by the keys that `line_up` writes is the order of spare tenths.
 -- Assumes nothing.
-use mathlib.Core.Path.{_≡_, subst₂}
+use mathlib.Core.Path.{_≡_}
 use mathlib.Core.Bool.{Bool, cond}
 use mathlib.Core.List.{List}
 use Prim.Native.Nat.{ℕ, _<_}
@@ -10,22 +10,20 @@ use lib.Dec.{eqb}
 use borrow.Author.Needs.{needs}
 use Rattle.laws.proofs.Filling.{length-filling}
 use Rattle.laws.proofs.FilledRows.{filled-row}
-use Rattle.columns.specs.Column.{highsOf, lowsOf}
-use Rattle.columns.proofs.Offers.{lows-small}
-use Rattle.contest.specs.Award.{Awarded}
 use Rattle.shares.specs.Parts.{rowKey}
+use Rattle.shares.specs.Halves.{highHalf, lowHalf}
 use Rattle.shares.proofs.Tenths.{standing-most, won-adds, won-cleared}
 use Rattle.shares.proofs.spare.give.Statement.{statement}
 use Rattle.shares.proofs.spare.give.Tie as tie
 
-slice-aggregate-read-stamps : tie.Need-slice-aggregate-read-stamps
-slice-aggregate-read-stamps c = search needs
+slice-aggregate-halve : tie.Need-slice-aggregate-halve
+slice-aggregate-halve c = search needs
 
-slice-aggregate-read-stamps-2 : tie.Need-slice-aggregate-read-stamps-2
-slice-aggregate-read-stamps-2 c = search needs
+slice-aggregate-halve-2 : tie.Need-slice-aggregate-halve-2
+slice-aggregate-halve-2 c = search needs
 
-read-stamps-requires : tie.Need-read-stamps-requires
-read-stamps-requires c κs = search needs
+halve-requires : tie.Need-halve-requires
+halve-requires c κs = search needs
 
 slice-aggregate-line-up : tie.Need-slice-aggregate-line-up
 slice-aggregate-line-up c = search needs
@@ -48,12 +46,12 @@ slice-aggregate-award-3 c = search needs
 slice-aggregate-award-4 : tie.Need-slice-aggregate-award-4
 slice-aggregate-award-4 c = search needs
 
--- the function's entry, and where the stamps are read, from where the rows are lined up
+-- the function's entry, and where the stamps are halved, from where the rows are lined up
 abbrev entry : tie.After-line-up → tie.Start
 entry c = c .before .before .before .before .before .before .before .before .before .before .before .before .before .before
 
-abbrev read : tie.After-line-up → tie.After-read-stamps
-read c = c .before .before .before .before .before .before
+abbrev halved : tie.After-line-up → tie.After-halve
+halved c = c .before .before .before .before .before .before
 
 -- the lists that the calls leave behind
 abbrev keys : tie.After-line-up → List ℕ
@@ -81,26 +79,31 @@ stands c = filled-row _ _ _ (c .line-up .ensures .1) (search needs)
 award-requires : tie.Need-award-requires
 award-requires c κs =
     let up = c .before .before .before .before .before .before in
-    let p = entry up .pre .1 in
+    let p = entry up .pre in
     record {
       first = omega (arith, length-filling _ _ _ (up .line-up .ensures .0), p .divides .rows .few);
-      second = omega (arith, length-filling _ _ _ (read up .read-stamps .ensures .0), p .divides .rows .few);
-      third = omega (arith, length-filling _ _ _ (read up .read-stamps .ensures .1), p .divides .rows .few);
+      second = omega (arith, length-filling _ _ _ (halved up .halve .ensures .0), p .divides .rows .few);
+      third = omega (arith, length-filling _ _ _ (halved up .halve .ensures .1), p .divides .rows .few);
       fourth = p .ordered .resources-long;
       standing = omega (arith, length-filling _ _ _ (up .line-up .ensures .1), p .divides .rows .few);
       few = p .divides .rows .few;
       fresh = λ i h. standing-most (atLevel up i) (getD (standings up) i 0) (stands up i h);
     }
 
--- the contest is by the stamps of the book's rows
-awarded : (c : tie.After-award) → let up = c .before .before .before .before .before .before .before in let a = entry up .args in
-    Awarded (keys up) (highsOf (a .book .now) (a .n)) (lowsOf (a .book .now) (a .n)) (a .resources .now) (standings up) (a .n)
-    (a .spare) (tenths c)
-awarded c =
-    let up = c .before .before .before .before .before .before .before in
-    let a = entry up .args in
-    subst₂ (λ (highs lows : List ℕ). Awarded (keys up) highs lows (a .resources .now) (standings up) (a .n) (a .spare) (tenths c))
-    (read up .read-stamps .ensures .0) (read up .read-stamps .ensures .1) (c .award .ensures)
+-- the halves that the stamps were parted into
+abbrev highs : tie.After-line-up → List ℕ
+highs c = halved c .halve .last .1 .1 .0
+
+abbrev lows : tie.After-line-up → List ℕ
+lows c = halved c .halve .last .1 .1 .1 .0
+
+halves : (c : tie.After-line-up) (i : ℕ) → i < entry c .args .n
+    → (getD (highs c) i 0 ≡ highHalf (entry c .args .stamps .now) i) × (getD (lows c) i 0 ≡ lowHalf (entry c .args .stamps .now) i)
+halves c i h =
+    let few = entry c .pre .divides .rows .few in (
+      filled-row _ _ _ (halved c .halve .ensures .0) (search needs) i h,
+      filled-row _ _ _ (halved c .halve .ensures .1) (search needs) i h,
+    )
 
 slice-aggregate-add : tie.Need-slice-aggregate-add
 slice-aggregate-add c = search needs
@@ -109,7 +112,7 @@ add-requires : tie.Need-add-requires
 add-requires c κs =
     let won = c .before .before .before in
     let up = won .before .before .before .before .before .before .before in
-    won-adds _ _ _ _ _ _ _ _ _ (entry up .pre .1) (keys up) (standings up) (tenths won) (awarded won)
+    won-adds _ _ _ _ _ _ _ _ (entry up .pre) (highs up) (lows up) (keys up) (standings up) (tenths won) (won .award .ensures)
     (omega (arith, won .award .ensures .rows, award-requires (won .before) (won .award .lifetimes) .standing))
 
 same-length : tie.Need-same-length
@@ -119,10 +122,10 @@ returns : tie.Need-returns
 returns c =
     let won = c .before .before .before .before .before .before in
     let up = won .before .before .before .before .before .before .before in
-    let p = entry up .pre .1 in
-    won-cleared _ _ _ _ _ _ _ _ _ p (keys up) (standings up) (tenths won) (awarded won)
+    let p = entry up .pre in
+    won-cleared _ _ _ _ _ _ _ _ p (highs up) (lows up) (keys up) (standings up) (tenths won) (won .award .ensures)
     (c .before .before .add .last .1 .1 .0)
-    (lows-small _ _ (p .divides .rows .few))
+    (halves up)
     (keyed up)
     (stands up)
     (c .before .before .add .ensures)
@@ -131,9 +134,9 @@ pub give-spec : {M : Type 1} → statement M
 give-spec =
     tie.close
     (tie.spec
-    slice-aggregate-read-stamps
-    slice-aggregate-read-stamps-2
-    read-stamps-requires
+    slice-aggregate-halve
+    slice-aggregate-halve-2
+    halve-requires
     slice-aggregate-line-up
     slice-aggregate-line-up-2
     line-up-requires

@@ -1,8 +1,8 @@
 -- `terms_of` meets its contract, field by field.
 -- Assumes nothing.
 use borrow.Author.Needs.{needs}
-use Rattle.sale.proofs.terms_of.Statement.{statement}
-use Rattle.sale.proofs.terms_of.Tie as tie
+use Rattle.region.proofs.terms_of.Statement.{statement}
+use Rattle.region.proofs.terms_of.Tie as tie
 
 number-held-requires : tie.Need-number-held-requires
 number-held-requires c κs = search needs
