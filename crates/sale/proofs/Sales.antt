@@ -82,13 +82,8 @@ module _ (c : Contents) (p : Parameters) (n : ℕ) (v : Columns) (s : Stands c p
   pub shared-cleared : (x : ℕ) (before after : List ℕ) → n ≤ length before → x ≡ total c
       → SharedOut (rowsOf (v .prices) (v .quantities) (v .stamps) (v .resources) n) x before after
       → after ≡ clearedList c before
-  unfolding clearedList rowCleared
+  unfolding clearedList rowCleared offersOf
   shared-cleared x before after long e shared =
       shared-filled _ x before after long shared
       ∙ ap (λ (o : Offers). filled (cleared o x) (o .count) before) columns-offers
-      ∙ own
-    where
-      own : filled (cleared (offersOf (c .offers)) x) (offersOf (c .offers) .count) before
-          ≡ filled (cleared (offersOf (c .offers)) (total c)) (length (c .offers)) before
-      unfolding offersOf
-      own = ap (λ (y : ℕ). filled (cleared (offersOf (c .offers)) y) (length (c .offers)) before) e
+      ∙ ap (λ (y : ℕ). filled (cleared (offersOf (c .offers)) y) (length (c .offers)) before) e

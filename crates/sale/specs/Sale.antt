@@ -36,6 +36,11 @@ pub record ClearedAs (c : Contents) (cleared committed : List ℕ) (r : Clearing
   pub cleared-holds : cleared′ ≡ clearedList c cleared
   pub committed-holds : committed′ ≡ committedList c committed
 
+-- whatever contents stand in the columns, theirs is the clearing
+abbrev pub ClearsColumns : Parameters → ℕ → Columns → (cleared committed : List ℕ) → Clearing → (cleared′ committed′ : List ℕ) → Type 0
+ClearsColumns p n v cleared committed r cleared′ committed′ =
+    (c : Contents) → Stands c p n v → ClearedAs c cleared committed r cleared′ committed′
+
 -- the sale of offers on a curve: X at the clearing price, and the amounts are what each row clears of X
 pub record SoldColumns (c : Curve) (o : Offers) (before : List ℕ) (s : Sale) (after : List ℕ) : Type 0 where
   pub quantity : s .total ≡ clearedTotal (demandOf c) o

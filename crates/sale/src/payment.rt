@@ -9,9 +9,8 @@ ghost use mathlib.Core.Path.{_≡_};
 ghost use Prim.Native.Nat.{_≤_};
 ghost use lib.ListN.{length};
 ghost use Rattle.auction.specs.Settlement.{daysOf};
-ghost use Rattle.values.specs.Contents.{Contents};
 ghost use Rattle.columns.specs.Columns.{columnsOf};
-ghost use Rattle.sale.specs.Sale.{Stands, SomeStand, ClearedAs};
+ghost use Rattle.sale.specs.Sale.{SomeStand, ClearsColumns};
 
 // The number of days of the delivery year that starts in a calendar year.
 pub fn days_of(year: u32) -> u64
@@ -35,9 +34,9 @@ pub fn clearing(
 ) -> Clearing
     requires { ⌜ SomeStand p n (columnsOf (now prices) (now quantities) (now leasts) (now resources) (now stamps)) ⌝ }
     requires { ⌜ (n ≤ length (now cleared)) × (n ≤ length (now committed)) ⌝ }
-    ensures { λ r. ⌜ (c : Contents)
-        → Stands c p n (columnsOf (now (prices .entry)) (now (quantities .entry)) (now (leasts .entry)) (now (resources .entry)) (now (stamps .entry)))
-        → ClearedAs c (now (cleared .entry)) (now (committed .entry)) r (now (cleared .exit)) (now (committed .exit)) ⌝ }
+    ensures { λ r. ⌜ ClearsColumns p n
+        (columnsOf (now (prices .entry)) (now (quantities .entry)) (now (leasts .entry)) (now (resources .entry)) (now (stamps .entry)))
+        (now (cleared .entry)) (now (committed .entry)) r (now (cleared .exit)) (now (committed .exit)) ⌝ }
 {
     let sale = sell(
         region_curve(p),
