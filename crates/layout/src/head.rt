@@ -46,7 +46,7 @@ fn head_marks_hold(s: &[u8]) -> bool
 }
 
 // Whether the part is laid out as block 0 of a book of so many blocks.
-pub fn head_holds(s: &[u8], blocks: usize) -> bool
+pub(crate) fn head_holds(s: &[u8], blocks: usize) -> bool
     requires { ⌜ 512 ≤ length (now s) ⌝ }
     ensures { λ r. ⌜ r ≡ headHolds (now (s .entry)) blocks ⌝ }
 {

@@ -19,7 +19,11 @@ shared-slice-read-if2 c = search needs
 
 returns-2 : tie.Need-returns-2
 unfolding lastHolds
-returns-2 c = rw (le-leb _ _ (c .before .before .if1 .left), lt-leb _ _ (c .if2 .taken))
+returns-2 c =
+    rw (
+      le-leb _ _ (c .before .before .before .if1 .left),
+      lt-leb _ _ (c .if2 .taken),
+    )
 
 shared-slice-read-if3 : tie.Need-shared-slice-read-if3
 shared-slice-read-if3 c = search needs
@@ -28,8 +32,8 @@ returns-3 : tie.Need-returns-3
 unfolding lastHolds
 returns-3 c =
     rw (
-      le-leb _ _ (c .before .before .before .before .if1 .left),
-      le-leb _ _ (c .before .before .if2 .left),
+      le-leb _ _ (c .before .before .before .before .before .before .if1 .left),
+      le-leb _ _ (c .before .before .before .if2 .left),
       lt-leb _ _ (c .if3 .taken),
     )
 
@@ -40,9 +44,9 @@ returns-4 : tie.Need-returns-4
 unfolding lastHolds
 returns-4 c =
     rw (
-      le-leb _ _ (c .before .before .before .before .before .before .if1 .left),
-      le-leb _ _ (c .before .before .before .before .if2 .left),
-      le-leb _ _ (c .before .before .if3 .left),
+      le-leb _ _ (c .before .before .before .before .before .before .before .before .before .if1 .left),
+      le-leb _ _ (c .before .before .before .before .before .before .if2 .left),
+      le-leb _ _ (c .before .before .before .if3 .left),
       lt-leb _ _ (c .if4 .taken),
     )
 
@@ -53,9 +57,9 @@ returns-5 : tie.Need-returns-5
 unfolding lastHolds
 returns-5 c =
     rw (
-      le-leb _ _ (c .before .before .before .before .before .before .before .if1 .left),
-      le-leb _ _ (c .before .before .before .before .before .if2 .left),
-      le-leb _ _ (c .before .before .before .if3 .left),
+      le-leb _ _ (c .before .before .before .before .before .before .before .before .before .before .if1 .left),
+      le-leb _ _ (c .before .before .before .before .before .before .before .if2 .left),
+      le-leb _ _ (c .before .before .before .before .if3 .left),
       le-leb _ _ (c .before .if4 .left),
     )
 

@@ -19,7 +19,7 @@ used-hold-requires-2 c κs = search needs
 
 returns-2 : tie.Need-returns-2
 returns-2 c =
-    answer-failed _ _ _ (c .before .used-hold .ensures) (c .if2 .taken) ∙ sym (places-rest _ _ _ (omega arith))
+    answer-failed _ _ _ (c .before .used-hold2 .ensures) (c .if2 .taken) ∙ sym (places-rest _ _ _ (omega arith))
 
 mul-from : tie.Need-mul-from
 mul-from c = search needs
@@ -38,7 +38,7 @@ is-blank-requires c κs = search needs
 
 returns-3 : tie.Need-returns-3
 returns-3 c =
-    answer-held _ _ _ _ (c .before .before .used-hold .ensures) (c .before .if2 .left) (c .is-blank .ensures)
+    answer-held _ _ _ _ (c .before .before .used-hold2 .ensures) (c .before .if2 .left) (c .is-blank .ensures)
     ∙ sym (places-rest _ _ _ (omega arith))
 
 pub places-hold-spec : {M : Type 1} → statement M

@@ -25,7 +25,7 @@ cast-t8 c = search needs
 returns : tie.Need-returns
 unfolding blockOf
 returns c =
-    λ i. record { letters = ofrs; first = 1; number = 1; rows = (c .offers-in .ensures .0) i; last = offerBytes; }
+    λ i. record { letters = ofrs; first = 1; number = 1; rows = (c .offers-in .ensures .0) i; last = offerBytes }
 
 pub offers-section-spec : {M : Type 1} → statement M
 offers-section-spec =
