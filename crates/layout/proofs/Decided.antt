@@ -3,11 +3,12 @@
 --
 -- In order: the first faults; the reader of rows; sections.
 -- Assumes nothing.
-use mathlib.Core.Path.{_≡_, sym, ap, _∙_}
+use mathlib.Core.Path.{_≡_, sym, _∙_}
 use mathlib.Core.List.{List}
 use Prim.Native.Nat.{ℕ}
 use contract.Lifetimes.{Lfts}
 use denote.Ref.{RefT, now}
+use Rattle.laws.proofs.Answers.{same-answer}
 use Rattle.values.specs.Refusals.{andThen}
 use Rattle.values.specs.declared.Verdict.{Verdict}
 use Rattle.layout.specs.Blocks.{rowBytes}
@@ -24,11 +25,6 @@ use Rattle.layout.proofs.rows.section_fault.Reads as section-fault
 use Rattle.layout.proofs.section.blocks_for.Reads as blocks-for
 use Rattle.layout.proofs.section.rows_here.Reads as rows-here
 use Rattle.layout.proofs.section.offers_section.Reads as offers-section
-
--- what two answers for the same bytes are, where each is what is defined of its own
-same-answer : {X : Type 0} (defined : List ℕ → X) {b c : List ℕ} {r s : X}
-    → b ≡ c → r ≡ defined b → s ≡ defined c → r ≡ s
-same-answer defined same e f = e ∙ ap defined same ∙ sym f
 
 module _ (κs : Lfts 1) (book other : RefT (List ℕ)) (same : now book ≡ now other) where
   -- the fault of the length, by the contract of `lengths`

@@ -1,13 +1,12 @@
 -- The fifteen places of a block hold where the used ones are laid out as such and the bytes from the first unused place on
 -- are zero.
 --
--- In order: tests that imply each other; a test that holds at every place; bytes that are zero, one by one; a place that is all
--- zero; the places of a block.
+-- In order: tests that imply each other; bytes that are zero, one by one; a place that is all zero; the places of a block.
 -- Assumes nothing.
 use mathlib.Core.Path.{_≡_, refl, sym, ap, _∙_}
 use mathlib.Core.Bool.{Bool, true, false, _&&_}
 use mathlib.Core.List.{List}
-use Prim.Native.Nat.{ℕ, zero, suc, _+_, _-_, _*_, _/_, _%_, _≤_, _<_}
+use Prim.Native.Nat.{ℕ, _+_, _-_, _*_, _/_, _%_, _≤_, _<_}
 use native.Mathlib.Nat.{zero-add}
 use native.Mathlib.Omega.{arith}
 use lib.Dec.{ltb}
@@ -15,7 +14,7 @@ use lib.Seq.{getD-take, getD-drop}
 use borrow.Author.Tests.{lt-ltb, le-ltb, eq-eqb, eqb-true}
 use Rattle.laws.specs.Sum.{every}
 use Rattle.laws.proofs.Cases.{by-order, and-true, and-left, and-right}
-use Rattle.laws.proofs.Everys.{every-zero, every-suc, every-at}
+use Rattle.laws.proofs.Everys.{every-at, every-all}
 use Rattle.block.specs.Bytes.{byte, blank}
 use Rattle.layout.specs.Blocks.{placeOf}
 use Rattle.layout.specs.Section.{usedHolds, placeHolds, placesHold}
@@ -25,11 +24,6 @@ same-test : (s t : Bool) → (s ≡ true → t ≡ true) → (t ≡ true → s �
 same-test true t f g = sym (f refl)
 same-test false true f g = g refl
 same-test false false f g = refl
-
-every-all : (test : ℕ → Bool) (n : ℕ) → ((i : ℕ) → i < n → test i ≡ true) → every test n ≡ true
-every-all test zero h = every-zero test
-every-all test (suc n) h =
-    every-suc test n ∙ and-true (every test n) (test n) (every-all test n (λ i l. h i (omega arith))) (h n (omega arith))
 
 -- zero bytes, one by one
 blank-at : (s : List ℕ) (from n i : ℕ) → blank s from n ≡ true → i < n → byte s (from + i) ≡ 0
