@@ -14,7 +14,7 @@ use Rattle.columns.specs.Column.{priceOf, quantityOf, leastsOf, resource
 use Rattle.columns.specs.Columns.{Columns, columnsOf, ColumnsRead}
 
 -- what a row's own bytes hold is the row's offer
-pub offer-of-row : (b : List ℕ) (row : ℕ) {part : List ℕ} {o : Offer} → part ≡ rowBytes b row → o ≡ offerOf part
+pub offer-of-row : (b : List ℕ) (row : ℕ) {part : List ℕ} {o : Offer} → part ≡ rowBytes b 1 row → o ≡ offerOf part
     → o ≡ bookOffer b row
 unfolding bookOffer
 offer-of-row b row p e = rw (e, p)

@@ -14,12 +14,12 @@ const HALF: u64 = 4294967296;
 
 // Reads the time stamps of the first n rows of a book, in halves.
 pub fn read_stamps(book: &[u8], n: usize, highs: &mut [u32], lows: &mut [u32])
-    requires { ⌜ Inside (now book) n × (n ≤ length (now highs)) × (n ≤ length (now lows)) ⌝ }
+    requires { ⌜ Inside (now book) 1 n × (n ≤ length (now highs)) × (n ≤ length (now lows)) ⌝ }
     ensures { λ _. ⌜ now (highs .exit) ≡ filled (highOf (now (book .entry))) n (now (highs .entry)) ⌝ }
     ensures { λ _. ⌜ now (lows .exit) ≡ filled (lowOf (now (book .entry))) n (now (lows .entry)) ⌝ }
 {
     for row in 0..n {
-        let offer = offer_in(row_bytes(book, row));
+        let offer = offer_in(row_bytes(book, 1, row));
         highs[row] = (offer.stamp / HALF) as u32;
         lows[row] = (offer.stamp % HALF) as u32;
     }

@@ -22,7 +22,7 @@ use Rattle.sale.specs.declared.sell.Sale.{Sale}
 -- all n rows of a book can be cleared under the parameters: the book and the parameters have passed the refusals
 pub record Clearable (b : List ℕ) (p : Parameters) (n : ℕ) : Type 0 where
   pub rows : n ≡ offerCount b
-  pub inside : Inside b n
+  pub inside : Inside b 1 n
   pub terms : InRange (termsOf p)
   pub priced : (row : ℕ) → row < n → held (bookOffer b row .price) ≤ 1000000
   pub offered : (row : ℕ) → row < n → 1 ≤ bookOffer b row .quantity

@@ -29,7 +29,7 @@ pub(crate) fn sell(
     n: usize,
     amounts: &mut [u32],
 ) -> Sale
-    requires { ⌜ Shaped c × Inside (now book) n ⌝ }
+    requires { ⌜ Shaped c × Inside (now book) 1 n ⌝ }
     requires { ⌜ RowLists (now prices) (now quantities) n ⌝ }
     requires { ⌜ Ordered (now quantities) (highsOf (now book) n) (lowsOf (now book) n) (now resources) n ⌝ }
     requires { ⌜ n ≤ length (now amounts) ⌝ }

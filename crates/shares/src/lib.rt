@@ -35,7 +35,7 @@ pub fn share_out(
     level: Level,
     out: &mut [u32],
 )
-    requires { ⌜ Inside (now book) n × RowLists (now prices) (now quantities) n ⌝ }
+    requires { ⌜ Inside (now book) 1 n × RowLists (now prices) (now quantities) n ⌝ }
     requires { ⌜ Ordered (now quantities) (highsOf (now book) n) (lowsOf (now book) n) (now resources) n ⌝ }
     requires { ⌜ n ≤ length (now out) ⌝ }
     requires { ⌜ StopsAt (listed (now prices) (now quantities) n) (level .total) level ⌝ }

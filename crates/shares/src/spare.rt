@@ -79,7 +79,7 @@ pub fn give(
     spare: u32,
     out: &mut [u32],
 )
-    requires { ⌜ Inside (now book) n ⌝ }
+    requires { ⌜ Inside (now book) 1 n ⌝ }
     requires { ⌜ SparesDue (now prices) (now quantities) (highsOf (now book) n) (lowsOf (now book) n) (now resources) n level spare (now out) ⌝ }
     ensures { λ _. ⌜ now (out .exit) ≡ filled (cleared (rowsOf (now (prices .entry)) (now (quantities .entry)) (highsOf (now (book .entry)) n) (lowsOf (now (book .entry)) n) (now (resources .entry)) n) (level .total)) n (now (out .entry)) ⌝ }
 {
