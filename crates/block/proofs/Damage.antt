@@ -1,6 +1,6 @@
 -- The check of a block catches one altered byte, at any of its 512 places, and two unequal bytes exchanged among those summed.
 --
--- In order: a sound block; an altered byte; two bytes exchanged. Each is shown of a check that would hold all the same.
+-- In order: an altered byte; two bytes exchanged. Each is shown of a check that would hold all the same.
 -- Assumes nothing.
 use mathlib.Core.Path.{_≡_, sym, ap, _∙_}
 use mathlib.Core.Bool.{true, false}
@@ -11,15 +11,9 @@ use lib.ListN.{length, set}
 use Rattle.laws.proofs.Cases.{by-order}
 use Rattle.laws.proofs.Altered.{sumTo-set, sumTo-set-past, sumTo-exchange}
 use Rattle.block.specs.Bytes.{byte, u16At}
-use Rattle.block.specs.Check.{firstSum, secondSum, checkHolds}
+use Rattle.block.specs.Check.{firstSum, secondSum, checkHolds, SoundBlock}
 use Rattle.block.proofs.Stored.{check-first, check-second, check-fails, u16At-set-other, u16At-set-inj}
 use Rattle.block.proofs.Exchange.{Exchanged, exchange-apart}
-
--- a block of 512 bytes whose check holds
-pub record SoundBlock (s : List ℕ) : Type 0 where
-  pub whole : length s ≡ 512
-  pub bytes : (i : ℕ) → i < 512 → byte s i < 256
-  pub holds : checkHolds s ≡ true
 
 -- an altered byte that the check misses
 module _ (s : List ℕ) (sound : SoundBlock s) (i v : ℕ) (missed : checkHolds (set s i v) ≡ true) where

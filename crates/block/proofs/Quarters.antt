@@ -1,21 +1,14 @@
 -- A sum over a block of 512 places, taken from its four quarters at once, and without its last four.
 --
--- In order: a sum over n places and m more; a sum by quarters; four bytes, one from each quarter, times their positions; a
+-- In order: a sum by quarters; four bytes, one from each quarter, times their positions; a
 -- sum and its last four summands, which are taken off.
 -- Assumes nothing.
-use mathlib.Core.Path.{_≡_, ap}
-use Prim.Native.Nat.{ℕ, zero, suc, _+_, _*_, _-_, _%_, _≤_}
-use native.Mathlib.Nat.{mul-add, add-mul, add-comm, add-zero, add-suc}
+use mathlib.Core.Path.{_≡_}
+use Prim.Native.Nat.{ℕ, _+_, _*_, _-_, _%_, _≤_}
+use native.Mathlib.Nat.{mul-add, add-mul}
 use native.Mathlib.Omega.{arith}
 use Rattle.laws.specs.Sum.{sumTo}
-use Rattle.laws.proofs.Sums.{sumTo-zero, sumTo-suc, sumTo-add}
-
--- the first n places, and m more
-sumTo-append : (f : ℕ → ℕ) (n m : ℕ) → sumTo f (n + m) ≡ sumTo f n + sumTo (λ i. f (i + n)) m
-sumTo-append f n zero = rw add-zero (omega (arith, sumTo-zero (λ i. f (i + n))))
-sumTo-append f n (suc m) =
-    let more = sumTo-suc (λ i. f (i + n)) m in
-    rw add-suc (omega (arith, sumTo-append f n m, sumTo-suc f (n + m), ap f (add-comm n m)))
+use Rattle.laws.proofs.Sums.{sumTo-suc, sumTo-add, sumTo-append}
 
 -- what the four quarters have at one place
 abbrev pub quarters : (ℕ → ℕ) → ℕ → ℕ

@@ -50,7 +50,7 @@ module _ (b : List ℕ) (accepted : firstFault b ≡ Passed) where
   accepted-rows = andThen-right (statedFault b) _ stated-then-rows
 
   -- Its rows are at most 600 and lie within it.
-  pub accepted-inside : Inside b (offerCount b)
+  pub accepted-inside : Inside b 1 (offerCount b)
   accepted-inside = form-inside b accepted-form
 
   -- Its parameters are given, each within its range: 1 ≤ C ≤ 1,000,000, E ≤ C, F ≤ 5,000, 1,000 ≤ R ≤ 2,000,000.
@@ -93,7 +93,7 @@ module _ (b : List ℕ) (sound : soundFault b ≡ Passed) where
   sound-rows = andThen-right (rangeFault (bookParameters b)) _ range-then-rows
 
   -- Its rows are at most 600 and lie within it.
-  pub sound-inside : Inside b (offerCount b)
+  pub sound-inside : Inside b 1 (offerCount b)
   sound-inside = form-inside b sound-form
 
   -- Each of its offers has the values that it gives within their ranges.

@@ -71,5 +71,5 @@ module _ (b : List ℕ) (formed : formFault b ≡ Passed) where
   sound-formed = andThen-next (formFault b) _ formed
 
   -- its rows are at most 600 and lie within it
-  pub form-inside : Inside b (offerCount b)
+  pub form-inside : Inside b 1 (offerCount b)
   form-inside = record { few = form-passed-count b formed; within = form-passed-row b formed }

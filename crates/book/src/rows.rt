@@ -22,7 +22,7 @@ fn values_fault(
     leasts: &mut [u32],
     resources: &mut [u32],
 ) -> Verdict
-    requires { ⌜ Inside (now book) n × Room n (columnsOf (now prices) (now quantities) (now leasts) (now resources)) ⌝ }
+    requires { ⌜ Inside (now book) 1 n × Room n (columnsOf (now prices) (now quantities) (now leasts) (now resources)) ⌝ }
     ensures { λ r. ⌜ ValuesRead needed (now (book .entry)) n r
         (columnsOf (now (prices .entry)) (now (quantities .entry)) (now (leasts .entry)) (now (resources .entry)))
         (columnsOf (now (prices .exit)) (now (quantities .exit)) (now (leasts .exit)) (now (resources .exit))) ⌝ }
@@ -30,7 +30,7 @@ fn values_fault(
     let mut row: u32 = 0;
     while row < n {
         let at = row as usize;
-        let o = offer_in(row_bytes(book, at));
+        let o = offer_in(row_bytes(book, 1, at));
         let price = o.price;
         let block = o.block;
         prices[at] = number_held(price);
@@ -56,7 +56,7 @@ pub fn read_rows(
     leasts: &mut [u32],
     resources: &mut [u32],
 ) -> Verdict
-    requires { ⌜ Inside (now book) n × Room n (columnsOf (now prices) (now quantities) (now leasts) (now resources)) ⌝ }
+    requires { ⌜ Inside (now book) 1 n × Room n (columnsOf (now prices) (now quantities) (now leasts) (now resources)) ⌝ }
     ensures { λ r. ⌜ RowsRead needed (now (book .entry)) n r
         (columnsOf (now (prices .entry)) (now (quantities .entry)) (now (leasts .entry)) (now (resources .entry)))
         (columnsOf (now (prices .exit)) (now (quantities .exit)) (now (leasts .exit)) (now (resources .exit))) ⌝ }
@@ -67,7 +67,7 @@ pub fn read_rows(
 
 // The first fault of n rows alone.
 pub(crate) fn rows_fault(book: &[u8], n: u32, needed: bool) -> Verdict
-    requires { ⌜ Inside (now book) n ⌝ }
+    requires { ⌜ Inside (now book) 1 n ⌝ }
     ensures { λ r. ⌜ r ≡ rowsFault needed (bookOffer (now (book .entry))) n ⌝ }
 {
     let mut prices = [0u32; 600];

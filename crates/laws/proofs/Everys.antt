@@ -1,7 +1,7 @@
 -- Laws of `every`.
 --
--- In order: no place, one more place; a test that every place passes, at one of them; a place that fails it; numbers whose
--- sum is 0.
+-- In order: no place, one more place; a test that every place passes, at one of them, and shown at each; a place that fails
+-- it; numbers whose sum is 0.
 -- Assumes nothing.
 use mathlib.Core.Path.{_≡_, refl, sym, ap, _∙_}
 use mathlib.Core.Bool.{Bool, true, false, _&&_, true≢false}
@@ -11,7 +11,7 @@ use native.Mathlib.Omega.{arith}
 use lib.Dec.{eqb, eqb·suc-zero}
 use borrow.Author.Tests.{eq-eqb}
 use Rattle.laws.specs.Sum.{sumTo, every}
-use Rattle.laws.proofs.Cases.{by-order, by-test, and-left, and-right}
+use Rattle.laws.proofs.Cases.{by-order, by-test, and-true, and-left, and-right}
 use Rattle.laws.proofs.Sums.{sumTo-zero, sumTo-suc}
 
 pub every-zero : (test : ℕ → Bool) → every test 0 ≡ true
@@ -30,6 +30,12 @@ every-at test (suc n) i e l =
     by-order n i
     (λ h. let same : i ≡ n = omega arith in rw same (and-right (every test n) (test n) both))
     (λ h. every-at test n i (and-left (every test n) (test n) both) h)
+
+-- and where each does, every place passes
+pub every-all : (test : ℕ → Bool) (n : ℕ) → ((i : ℕ) → i < n → test i ≡ true) → every test n ≡ true
+every-all test zero h = every-zero test
+every-all test (suc n) h =
+    every-suc test n ∙ and-true (every test n) (test n) (every-all test n (λ i l. h i (omega arith))) (h n (omega arith))
 
 -- where one place fails, not every place passes
 pub every-false : (test : ℕ → Bool) (n i : ℕ) → i < n → test i ≡ false → every test n ≡ false

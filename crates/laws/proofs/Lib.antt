@@ -1,3 +1,4 @@
+pub mod Answers
 pub mod Cases
 pub mod Sums
 pub mod Where

@@ -1,11 +1,11 @@
--- Laws of `sumTo`, `sumWhere` and `countWhere`.
+-- Laws of `sumTo`.
 --
--- In order: equal summands; sums that are ordered; two sums added; a factor; nothing to add; a sum over some places is at
--- most the sum over all; two tests, of which one implies the other; a place that counts.
+-- In order: equal summands; sums that are ordered; two sums added; a sum over n places and m more; a factor; nothing to add;
+-- one summand and the sum.
 -- Assumes nothing.
 use mathlib.Core.Path.{_≡_, refl, sym, ap, _∙_}
 use Prim.Native.Nat.{ℕ, zero, suc, _+_, _*_, _≤_, _<_}
-use native.Mathlib.Nat.{mul-add, mul-zero, not-suc-le-zero}
+use native.Mathlib.Nat.{mul-add, mul-zero, add-comm, add-zero, add-suc, not-suc-le-zero}
 use native.Mathlib.Omega.{arith}
 use Rattle.laws.specs.Sum.{sumTo}
 use Rattle.laws.proofs.Cases.{by-order}
@@ -32,6 +32,13 @@ pub sumTo-add : (f g : ℕ → ℕ) (n : ℕ) → sumTo (λ i. f i + g i) n ≡ 
 sumTo-add f g zero = omega (arith, sumTo-zero f, sumTo-zero g, sumTo-zero (λ i. f i + g i))
 sumTo-add f g (suc n) =
     omega (arith, sumTo-suc f n, sumTo-suc g n, sumTo-suc (λ i. f i + g i) n, sumTo-add f g n)
+
+-- the first n places, and m more
+pub sumTo-append : (f : ℕ → ℕ) (n m : ℕ) → sumTo f (n + m) ≡ sumTo f n + sumTo (λ i. f (i + n)) m
+sumTo-append f n zero = rw add-zero (omega (arith, sumTo-zero (λ i. f (i + n))))
+sumTo-append f n (suc m) =
+    let more = sumTo-suc (λ i. f (i + n)) m in
+    rw add-suc (omega (arith, sumTo-append f n m, sumTo-suc f (n + m), ap f (add-comm n m)))
 
 pub sumTo-mul : (k : ℕ) (f : ℕ → ℕ) (n : ℕ) → sumTo (λ i. k * f i) n ≡ k * sumTo f n
 sumTo-mul k f zero = sumTo-zero (λ i. k * f i) ∙ sym (mul-zero k) ∙ ap (λ (s : ℕ). k * s) (sym (sumTo-zero f))

@@ -1,55 +1,84 @@
--- The contract of each of this crate's public functions leaves one answer: any two that it allows coincide. Each contract
--- is an equation with a definition, so both answers are what is defined.
+-- The contract of each public function of this crate leaves one answer: any two that it allows for the same bytes coincide,
+-- wherever the books lie.
+--
+-- In order: the first faults; the reader of rows; sections.
 -- Assumes nothing.
 use mathlib.Core.Path.{_≡_, sym, _∙_}
-use mathlib.Core.Bool.{Bool}
 use mathlib.Core.List.{List}
-use Prim.Native.Nat.{ℕ, _/_, _%_}
-use lib.Dec.{eqb}
-use Rattle.block.specs.Bytes.{u32At}
-use Rattle.values.specs.Values.{absentIsZero}
+use Prim.Native.Nat.{ℕ}
+use contract.Lifetimes.{Lfts}
+use denote.Ref.{RefT, now}
+use Rattle.laws.proofs.Answers.{same-answer}
+use Rattle.values.specs.Refusals.{andThen}
 use Rattle.values.specs.declared.Verdict.{Verdict}
 use Rattle.layout.specs.Blocks.{rowBytes}
-use Rattle.layout.specs.Layout.{headHolds, rowsHere, rowsHold}
-use Rattle.layout.specs.Form.{offerCount, formFault, ownBytes}
+use Rattle.layout.specs.Section.{sectionFault}
+use Rattle.layout.specs.Form.{lengthFault, checkFault, layoutFault, formFault, offerCount, offersSection, ownBytes}
+use Rattle.layout.specs.declared.section.Section.{Section}
+use Rattle.layout.proofs.form.lengths.Reads as lengths
+use Rattle.layout.proofs.form.blocks_fault.Reads as blocks-fault
+use Rattle.layout.proofs.form.form.Reads as form
+use Rattle.layout.proofs.reader.offer_count.Reads as offer-count
+use Rattle.layout.proofs.reader.row_bytes.Reads as row-bytes
+use Rattle.layout.proofs.reader.own_bytes.Reads as own-bytes
+use Rattle.layout.proofs.rows.section_fault.Reads as section-fault
+use Rattle.layout.proofs.section.blocks_for.Reads as blocks-for
+use Rattle.layout.proofs.section.rows_here.Reads as rows-here
+use Rattle.layout.proofs.section.offers_section.Reads as offers-section
 
--- two answers that both are what is defined
-same-answer : {X : Type 0} {defined r s : X} → r ≡ defined → s ≡ defined → r ≡ s
-same-answer e f = e ∙ sym f
+module _ (κs : Lfts 1) (book other : RefT (List ℕ)) (same : now book ≡ now other) where
+  -- the fault of the length, by the contract of `lengths`
+  pub lengths-decided : (r s : Verdict)
+      → lengths.Post κs (book, tt) r (book, tt) → lengths.Post κs (other, tt) s (other, tt) → r ≡ s
+  lengths-decided r s = same-answer lengthFault same
 
--- `form` of a book
-pub form-decided : (book : List ℕ) (r s : Verdict) → r ≡ formFault book → s ≡ formFault book → r ≡ s
-form-decided book r s = same-answer
+  -- the first fault of the blocks, by the contract of `blocks_fault`
+  pub blocks-fault-decided : (r s : Verdict)
+      → blocks-fault.Post κs (book, tt) r (book, tt) → blocks-fault.Post κs (other, tt) s (other, tt) → r ≡ s
+  blocks-fault-decided r s = same-answer (λ b. andThen (checkFault b) (layoutFault b)) same
 
--- `own_bytes` of a book and a row
-pub own-bytes-decided : (book : List ℕ) (row : ℕ) (r s : List ℕ) → r ≡ ownBytes book row → s ≡ ownBytes book row → r ≡ s
-own-bytes-decided book row r s = same-answer
+  -- the first fault among 1 to 3, by the contract of `form`
+  pub form-decided : (r s : Verdict)
+      → form.Post κs (book, tt) r (book, tt) → form.Post κs (other, tt) s (other, tt) → r ≡ s
+  form-decided r s = same-answer formFault same
 
--- `row_bytes` a book and a row
-pub row-bytes-decided : (book : List ℕ) (row : ℕ) (r s : List ℕ) → r ≡ rowBytes book row → s ≡ rowBytes book row → r ≡ s
-row-bytes-decided book row r s = same-answer
+  -- the number of offers, by the contract of `offer_count`
+  pub offer-count-decided : (r s : ℕ)
+      → offer-count.Post κs (book, tt) r (book, tt) → offer-count.Post κs (other, tt) s (other, tt) → r ≡ s
+  offer-count-decided r s e f = same-answer offerCount same (e .0) (f .0)
 
--- `offer_count` of a book
-pub offer-count-decided : (book : List ℕ) (r s : ℕ) → r ≡ offerCount book → s ≡ offerCount book → r ≡ s
-offer-count-decided book r s = same-answer
+  -- a row's own bytes, by the contract of `row_bytes`
+  pub row-bytes-decided : (first row : ℕ) (r s : RefT (List ℕ))
+      → row-bytes.Post κs (book, (first, (row, tt))) r (book, (first, (row, tt)))
+      → row-bytes.Post κs (other, (first, (row, tt))) s (other, (first, (row, tt)))
+      → now r ≡ now s
+  row-bytes-decided first row r s e f = same-answer (λ b. rowBytes b first row) same (e .0) (f .0)
 
--- `head_holds` of a part and a number of blocks
-pub head-holds-decided : (part : List ℕ) (blocks : ℕ) (r s : Bool)
-    → r ≡ headHolds part blocks → s ≡ headHolds part blocks → r ≡ s
-head-holds-decided part blocks r s = same-answer
+  -- what the reader hands back, by the contract of `own_bytes`
+  pub own-bytes-decided : (row : ℕ) (r s : RefT (List ℕ))
+      → own-bytes.Post κs (book, (row, tt)) r (book, (row, tt))
+      → own-bytes.Post κs (other, (row, tt)) s (other, (row, tt))
+      → now r ≡ now s
+  own-bytes-decided row r s = same-answer (λ b. ownBytes b row) same
 
--- `rows_hold` of a part, its letters, its number and its count
-pub rows-hold-decided : (letters part : List ℕ) (k here : ℕ) (r s : Bool)
-    → r ≡ rowsHold letters part k here → s ≡ rowsHold letters part k here → r ≡ s
-rows-hold-decided letters part k here r s = same-answer
+  -- the first fault of a section, by the contract of `section_fault`
+  pub section-fault-decided : (t : Section) (r s : Verdict)
+      → section-fault.Post κs (book, (t, tt)) r (book, (t, tt))
+      → section-fault.Post κs (other, (t, tt)) s (other, (t, tt))
+      → r ≡ s
+  section-fault-decided t r s = same-answer (λ b. sectionFault b t) same
 
--- `rows_here` of so many rows and a block
-pub rows-here-decided : (rows k r s : ℕ) → r ≡ rowsHere rows k → s ≡ rowsHere rows k → r ≡ s
-rows-here-decided rows k r s = same-answer
+  -- the section of the offers, by the contract of `offers_section`
+  pub offers-section-decided : (r s : Section)
+      → offers-section.Post κs (book, tt) r (book, tt) → offers-section.Post κs (other, tt) s (other, tt) → r ≡ s
+  offers-section-decided r s = same-answer offersSection same
 
--- `absent_holds` of a part, a place, the marks and the weight of a mark
-pub absent-holds-decided : (part : List ℕ) (at marks weight : ℕ) (r s : Bool)
-    → r ≡ absentIsZero (eqb (marks / weight % 2) 1) (u32At part at)
-    → s ≡ absentIsZero (eqb (marks / weight % 2) 1) (u32At part at)
-    → r ≡ s
-absent-holds-decided part at marks weight r s = same-answer
+-- the number of blocks, by the contract of `blocks_for`
+pub blocks-for-decided : (rows r s : ℕ)
+    → blocks-for.Post tt (rows, tt) r (rows, tt) → blocks-for.Post tt (rows, tt) s (rows, tt) → r ≡ s
+blocks-for-decided rows r s e f = e ∙ sym f
+
+-- the rows of a block, by the contract of `rows_here`
+pub rows-here-decided : (rows j r s : ℕ)
+    → rows-here.Post tt (rows, (j, tt)) r (rows, (j, tt)) → rows-here.Post tt (rows, (j, tt)) s (rows, (j, tt)) → r ≡ s
+rows-here-decided rows j r s e f = e ∙ sym f

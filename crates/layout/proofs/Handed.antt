@@ -23,9 +23,9 @@ unfolding ownBytes
 row-part-past b row e h = rw (e, le-ltb row (offerCount b) h)
 
 -- a row that is there
-pub row-part-there : (b : List ℕ) (row : ℕ) → formFault b ≡ Passed → row < offerCount b → ownBytes b row ≡ rowBytes b row
+pub row-part-there : (b : List ℕ) (row : ℕ) → formFault b ≡ Passed → row < offerCount b → ownBytes b row ≡ rowBytes b 1 row
 unfolding ownBytes
 row-part-there b row e h = rw (e, lt-ltb row (offerCount b) h)
 
 pub row-part-length : (b : List ℕ) (row : ℕ) → formFault b ≡ Passed → row < offerCount b → length (ownBytes b row) ≡ 32
-row-part-length b row e h = ap length (row-part-there b row e h) ∙ row-length b row (form-passed-row b e row h)
+row-part-length b row e h = ap length (row-part-there b row e h) ∙ row-length b 1 row (form-passed-row b e row h)

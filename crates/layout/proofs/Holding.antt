@@ -5,11 +5,10 @@
 use mathlib.Core.Path.{_≡_}
 use mathlib.Core.Bool.{Bool, true, _&&_}
 use mathlib.Core.List.{List}
-use Prim.Native.Nat.{ℕ, _%_, _≤_, _<_}
+use Prim.Native.Nat.{ℕ, _+_, _%_, _≤_, _<_}
 use lib.ListN.{length}
 use lib.Dec.{eqb, leb, ltb}
 use borrow.Author.Tests.{eqb-true, leb-true, lt-ltb}
-use Rattle.laws.specs.Sum.{every}
 use Rattle.laws.proofs.Cases.{and-left, and-right}
 use Rattle.laws.proofs.Everys.{every-at}
 use Rattle.block.specs.Bytes.{u16At, opensWith, blank}
@@ -17,8 +16,9 @@ use Rattle.values.specs.Head.{offersIn}
 use Rattle.values.specs.declared.Verdict.the-variants.{Passed}
 use Rattle.values.proofs.Firsts.{unless-passed}
 use Rattle.layout.specs.Blocks.{placeOf}
-use Rattle.layout.specs.Layout.{blocksFor, rpmb, countFits, headMarksHold, headHolds}
-use Rattle.layout.specs.Layout.{usedHolds, placeHolds, rowsHold}
+use Rattle.layout.specs.Section.{blocksFor, usedHolds, placeHolds, placesHold, rowsHold}
+use Rattle.layout.specs.Layout.{rpmb, countFits, headMarksHold, headHolds}
+use Rattle.layout.specs.declared.section.Section.{Section}
 use Rattle.layout.specs.Form.{lengthFault}
 
 -- a length that is whole blocks, one at least, and no more than 41
@@ -45,17 +45,17 @@ length-holds b e =
 -- a count that fits so many blocks
 pub record CountHolds (blocks offers : ℕ) : Type 0 where
   pub most : offers ≤ 600
-  pub fits : blocks ≡ blocksFor offers
+  pub fits : blocks ≡ 1 + blocksFor offers
 
 -- of the count, and of block 0
 count-holds : (s : List ℕ) (blocks : ℕ) → countFits s blocks ≡ true → CountHolds blocks (offersIn s)
 unfolding countFits
 count-holds s blocks e =
     let most : Bool = leb (offersIn s) 600 in
-    let fits : Bool = eqb blocks (blocksFor (offersIn s)) in
+    let fits : Bool = eqb blocks (1 + blocksFor (offersIn s)) in
     record {
       most = leb-true (offersIn s) 600 (and-left most fits e);
-      fits = eqb-true blocks (blocksFor (offersIn s)) (and-right most fits e);
+      fits = eqb-true blocks (1 + blocksFor (offersIn s)) (and-right most fits e);
     }
 
 pub head-holds : (s : List ℕ) (blocks : ℕ) → headHolds s blocks ≡ true → CountHolds blocks (offersIn s)
@@ -70,22 +70,21 @@ head-holds s blocks e =
     (and-right (opensWith s rpmb) from-edition e)))
 
 -- a block of rows that holds has places that hold
-places-hold : (letters s : List ℕ) (k here : ℕ)
-    → rowsHold letters s k here ≡ true → every (λ i. placeHolds (ltb i here) (placeOf s i)) 15 ≡ true
+places-hold : (t : Section) (s : List ℕ) (k here : ℕ) → rowsHold t s k here ≡ true → placesHold (t .last) s here ≡ true
 unfolding rowsHold
-places-hold letters s k here e =
-    let places : Bool = every (λ i. placeHolds (ltb i here) (placeOf s i)) 15 in
+places-hold t s k here e =
+    let places : Bool = placesHold (t .last) s here in
     let from-blank : Bool = blank s 8 20 && places in
     let from-count : Bool = eqb (u16At s 6) here && from-blank in
     and-right (blank s 8 20) places
     (and-right (eqb (u16At s 6) here) from-blank
     (and-right (eqb (u16At s 4) k) from-count
-    (and-right (opensWith s letters) (eqb (u16At s 4) k && from-count) e)))
+    (and-right (opensWith s (t .letters)) (eqb (u16At s 4) k && from-count) e)))
 
 -- and its used places hold as such
-pub rows-hold-used : (letters s : List ℕ) (k here i : ℕ)
-    → rowsHold letters s k here ≡ true → i < 15 → i < here → usedHolds (placeOf s i) ≡ true
-unfolding placeHolds
-rows-hold-used letters s k here i e l u =
+pub rows-hold-used : (t : Section) (s : List ℕ) (k here i : ℕ)
+    → rowsHold t s k here ≡ true → i < 15 → i < here → usedHolds (t .last) (placeOf s i) ≡ true
+unfolding placesHold placeHolds
+rows-hold-used t s k here i e l u =
     rw (lt-ltb i here u) at
-    (every-at (λ j. placeHolds (ltb j here) (placeOf s j)) 15 i (places-hold letters s k here e) l)
+    (every-at (λ j. placeHolds (t .last) (ltb j here) (placeOf s j)) 15 i (places-hold t s k here e) l)

@@ -26,13 +26,13 @@ unfolding placeOf
 place-part s i = part-from s (28 + i * 32) 32
 
 -- a row's place of its block, as the code cuts both
-pub row-part : (b : List ℕ) (row : ℕ) →
-    let from = (1 + row / 15) * 512 in
+pub row-part : (b : List ℕ) (first row : ℕ) →
+    let from = (first + row / 15) * 512 in
     let at = 28 + row % 15 * 32 in
-    take (at + 32 - at) (drop at (take (from + 512 - from) (drop from b))) ≡ rowBytes b row
+    take (at + 32 - at) (drop at (take (from + 512 - from) (drop from b))) ≡ rowBytes b first row
 unfolding rowBytes
-row-part b row =
-    place-part _ (row % 15) ∙ ap (λ (s : List ℕ). placeOf s (row % 15)) (block-part b (1 + row / 15))
+row-part b first row =
+    place-part _ (row % 15) ∙ ap (λ (s : List ℕ). placeOf s (row % 15)) (block-part b (first + row / 15))
 
 part-length : (s : List ℕ) (at n : ℕ) → at + n ≤ length s → length (take n (drop at s)) ≡ n
 part-length s at n h = simp (length-take, length-drop) (omega arith)
@@ -48,9 +48,10 @@ unfolding placeOf
 place-length s i h l = part-length s (28 + i * 32) 32 (omega arith)
 
 -- a row whose block is inside the book has 32 bytes
-pub row-length : (b : List ℕ) (row : ℕ) → (1 + row / 15) * 512 + 512 ≤ length b → length (rowBytes b row) ≡ 32
+pub row-length : (b : List ℕ) (first row : ℕ)
+    → (first + row / 15) * 512 + 512 ≤ length b → length (rowBytes b first row) ≡ 32
 unfolding rowBytes
-row-length b row h =
-    place-length (blockOf b (1 + row / 15)) (row % 15)
-    (omega (arith, block-length b (1 + row / 15) h))
+row-length b first row h =
+    place-length (blockOf b (first + row / 15)) (row % 15)
+    (omega (arith, block-length b (first + row / 15) h))
     (omega arith)

@@ -1,13 +1,12 @@
--- The fifteen places of a block hold where all are laid out as used ones and the bytes from the first unused place on are
--- zero: a place that is all zero is laid out as a used one too.
+-- The fifteen places of a block hold where the used ones are laid out as such and the bytes from the first unused place on
+-- are zero.
 --
--- In order: tests that imply each other; a test that holds at every place; bytes that are zero, one by one; a place that is all
--- zero; the places of a block.
+-- In order: tests that imply each other; bytes that are zero, one by one; a place that is all zero; the places of a block.
 -- Assumes nothing.
 use mathlib.Core.Path.{_≡_, refl, sym, ap, _∙_}
-use mathlib.Core.Bool.{Bool, true, false, _&&_, _||_}
+use mathlib.Core.Bool.{Bool, true, false, _&&_}
 use mathlib.Core.List.{List}
-use Prim.Native.Nat.{ℕ, zero, suc, _+_, _-_, _*_, _/_, _%_, _≤_, _<_}
+use Prim.Native.Nat.{ℕ, _+_, _-_, _*_, _/_, _%_, _≤_, _<_}
 use native.Mathlib.Nat.{zero-add}
 use native.Mathlib.Omega.{arith}
 use lib.Dec.{ltb}
@@ -15,21 +14,16 @@ use lib.Seq.{getD-take, getD-drop}
 use borrow.Author.Tests.{lt-ltb, le-ltb, eq-eqb, eqb-true}
 use Rattle.laws.specs.Sum.{every}
 use Rattle.laws.proofs.Cases.{by-order, and-true, and-left, and-right}
-use Rattle.laws.proofs.Everys.{every-zero, every-suc, every-at}
-use Rattle.block.specs.Bytes.{byte, u16At, u32At, blank}
+use Rattle.laws.proofs.Everys.{every-at, every-all}
+use Rattle.block.specs.Bytes.{byte, blank}
 use Rattle.layout.specs.Blocks.{placeOf}
-use Rattle.layout.specs.Layout.{usedHolds, placeHolds}
-use Rattle.layout.proofs.Used.{used-holds-word}
+use Rattle.layout.specs.Section.{usedHolds, placeHolds, placesHold}
+use Rattle.layout.specs.declared.section.LastBytes.{LastBytes}
 
 same-test : (s t : Bool) → (s ≡ true → t ≡ true) → (t ≡ true → s ≡ true) → s ≡ t
 same-test true t f g = sym (f refl)
 same-test false true f g = g refl
 same-test false false f g = refl
-
-every-all : (test : ℕ → Bool) (n : ℕ) → ((i : ℕ) → i < n → test i ≡ true) → every test n ≡ true
-every-all test zero h = every-zero test
-every-all test (suc n) h =
-    every-suc test n ∙ and-true (every test n) (test n) (every-all test n (λ i l. h i (omega arith))) (h n (omega arith))
 
 -- zero bytes, one by one
 blank-at : (s : List ℕ) (from n i : ℕ) → blank s from n ≡ true → i < n → byte s (from + i) ≡ 0
@@ -46,40 +40,16 @@ unfolding placeOf
 place-byte s i j l = rw (getD-take, getD-drop)
 
 -- a place that is all zero
-or-true : (t : Bool) → t || true ≡ true
-or-true true = refl
-or-true false = refl
-
 zero-byte : (p : List ℕ) (i : ℕ) → blank p 0 32 ≡ true → i < 32 → byte p i ≡ 0
 zero-byte p i e l = rw zero-add at (blank-at p 0 32 i e l)
 
-zero-number : (p : List ℕ) (at : ℕ) → blank p 0 32 ≡ true → at < 29 → u32At p at ≡ 0
-unfolding u32At u16At
-zero-number p at e l = omega (
-  arith,
-  zero-byte p at e (omega arith),
-  zero-byte p (at + 1) e (omega arith),
-  zero-byte p (at + 2) e (omega arith),
-  zero-byte p (at + 2 + 1) e (omega arith),
-)
-
-blank-used : (p : List ℕ) → blank p 0 32 ≡ true → usedHolds p ≡ true
-blank-used p e =
-    rw (
-      used-holds-word,
-      zero-number p 28 e (omega arith),
-      zero-number p 8 e (omega arith),
-      zero-number p 16 e (omega arith),
-    )
-    (simp or-true)
-
-module _ (s : List ℕ) (here : ℕ) where
+module _ (last : LastBytes) (s : List ℕ) (here : ℕ) where
   -- place i holds; it is laid out as a used one; the bytes from the first unused place on are zero
   abbrev holds : ℕ → Bool
-  holds i = placeHolds (ltb i here) (placeOf s i)
+  holds i = placeHolds last (ltb i here) (placeOf s i)
 
   abbrev used : ℕ → Bool
-  used i = usedHolds (placeOf s i)
+  used i = usedHolds last (placeOf s i)
 
   abbrev rest : Bool
   rest = blank s (28 + here * 32) ((15 - here) * 32)
@@ -92,13 +62,6 @@ module _ (s : List ℕ) (here : ℕ) where
   holds-blank : (i : ℕ) → here ≤ i → holds i ≡ blank (placeOf s i) 0 32
   unfolding placeHolds
   holds-blank i l = rw (le-ltb i here l)
-
-  -- a place that holds is laid out as a used one
-  used-of-holds : (i : ℕ) → holds i ≡ true → used i ≡ true
-  used-of-holds i e =
-      by-order here i
-      (λ h. blank-used (placeOf s i) (sym (holds-blank i h) ∙ e))
-      (λ h. sym (holds-used i h) ∙ e)
 
   -- where all hold, the bytes from the first unused place on are zero
   rest-of-holds : every holds 15 ≡ true → rest ≡ true
@@ -121,19 +84,27 @@ module _ (s : List ℕ) (here : ℕ) where
       rw zero-add
       (place-byte s i j k ∙ ap (byte s) same ∙ blank-at s (28 + here * 32) ((15 - here) * 32) at e (omega arith)))
 
-  -- so a place holds where it is laid out as a used one and those are zero
-  holds-of-both : every used 15 ≡ true → rest ≡ true → (i : ℕ) → i < 15 → holds i ≡ true
+  -- so all places hold where the used ones are laid out as such and those are zero
+  holds-of-both : every used here ≡ true → rest ≡ true → (i : ℕ) → i < 15 → holds i ≡ true
   holds-of-both u e i l =
       by-order here i
       (λ h. holds-blank i h ∙ blank-of-rest e i h l)
-      (λ h. holds-used i h ∙ every-at used 15 i u l)
+      (λ h. holds-used i h ∙ every-at used here i u h)
 
-  pub places-rest : every holds 15 ≡ every used 15 && rest
-  places-rest =
-      same-test (every holds 15) (every used 15 && rest)
-      (λ e. and-true _ _ (every-all used 15 (λ i l. used-of-holds i (every-at holds 15 i e l))) (rest-of-holds e))
-      (λ e. every-all holds 15 (holds-of-both (and-left _ _ e) (and-right (every used 15) _ e)))
+  used-of-holds : here ≤ 15 → every holds 15 ≡ true → every used here ≡ true
+  used-of-holds few e = every-all used here (λ i l. sym (holds-used i l) ∙ every-at holds 15 i e (omega arith))
 
-  -- there is no such byte where all fifteen places are used
-  pub rest-none : 15 ≤ here → true ≡ rest
-  rest-none l = sym (blank-all s (28 + here * 32) ((15 - here) * 32) (λ i k. omega arith))
+  pub places-rest : here ≤ 15 → placesHold last s here ≡ every used here && rest
+  unfolding placesHold
+  places-rest few =
+      same-test (every holds 15) (every used here && rest)
+      (λ e. and-true _ _ (used-of-holds few e) (rest-of-holds e))
+      (λ e. every-all holds 15 (holds-of-both (and-left _ _ e) (and-right (every used here) _ e)))
+
+  -- where all fifteen places are used, all are laid out as such
+  pub places-full : here ≡ 15 → placesHold last s here ≡ every used 15
+  unfolding placesHold
+  places-full full =
+      same-test (every holds 15) (every used 15)
+      (λ e. every-all used 15 (λ i l. sym (holds-used i (omega arith)) ∙ every-at holds 15 i e l))
+      (λ e. every-all holds 15 (λ i l. holds-used i (omega arith) ∙ every-at used 15 i e l))

@@ -1,4 +1,4 @@
--- How a book is cut: blocks of 512 bytes, fifteen places of 32 bytes in each offer block, rows counted from 0.
+-- How a book is cut: blocks of 512 bytes, fifteen places of 32 bytes in each block of rows, rows counted from 0.
 -- Assumes nothing.
 use Prim.Native.Nat.{ℕ, _+_, _*_, _/_, _%_}
 use mathlib.Core.List.{List}
@@ -12,10 +12,10 @@ blockCount b = length b / 512
 unfoldable pub blockOf : List ℕ → ℕ → List ℕ
 blockOf b k = take 512 (drop (k * 512) b)
 
--- place i of an offer block, from 0: bytes 28-507 are fifteen places of 32 bytes
+-- place i of a block of rows, from 0: bytes 28-507 are fifteen places of 32 bytes
 unfoldable pub placeOf : List ℕ → ℕ → List ℕ
 placeOf s i = take 32 (drop (28 + i * 32) s)
 
--- a row's own 32 bytes, by block and place
-unfoldable pub rowBytes : List ℕ → ℕ → List ℕ
-rowBytes b row = placeOf (blockOf b (1 + row / 15)) (row % 15)
+-- a row's own 32 bytes, by block and place, where the blocks of its section start at block `first`
+unfoldable pub rowBytes : List ℕ → ℕ → ℕ → List ℕ
+rowBytes b first row = placeOf (blockOf b (first + row / 15)) (row % 15)

@@ -1,8 +1,8 @@
 -- Refusals 1, 2 and 3, and the part that the reader of rows hands back.
 -- Assumes nothing.
-use Prim.Native.Nat.{ℕ, _+_, _-_, _%_}
+use Prim.Native.Nat.{ℕ, _%_}
 use mathlib.Core.Bool.{cond, _&&_}
-use mathlib.Core.List.{List, []}
+use mathlib.Core.List.{List, [], _∷_}
 use lib.ListN.{length}
 use lib.Dec.{eqb, leb, ltb}
 use Rattle.block.specs.Check.{checkHolds}
@@ -11,7 +11,10 @@ use Rattle.values.specs.Refusals.{wrongLength, wrongCheck, wrongLayout, unless,
 use Rattle.values.specs.declared.Verdict.{Verdict}
 use Rattle.values.specs.declared.Verdict.the-variants.{Passed, Refused}
 use Rattle.layout.specs.Blocks.{blockCount, blockOf, rowBytes}
-use Rattle.layout.specs.Layout.{headHolds, rowsHold, rowsHere, ofrs}
+use Rattle.layout.specs.Section.{sectionFault}
+use Rattle.layout.specs.Layout.{headHolds}
+use Rattle.layout.specs.declared.section.LastBytes.{LastBytes}
+use Rattle.layout.specs.declared.section.Section.{Section}
 
 -- 1: the length
 unfoldable pub lengthFault : List ℕ → Verdict
@@ -25,15 +28,22 @@ checkFault b = first (λ k. unless (checkHolds (blockOf b k)) (wrongCheck k)) (b
 abbrev pub offerCount : List ℕ → ℕ
 offerCount b = offersIn (blockOf b 0)
 
--- 3 at an offer block
-unfoldable pub offerBlockFault : List ℕ → ℕ → Verdict
-offerBlockFault b k = unless (rowsHold ofrs (blockOf b k) k (rowsHere (offerCount b) k)) (wrongLayout k)
+-- the four letters `OFRS`
+abbrev pub ofrs : List ℕ
+ofrs = 79 ∷ 70 ∷ 82 ∷ 83 ∷ []
+
+-- the last bytes of an offer in edition 1: bits 0 and 1 of the marks may be set, the other bits and bytes 29-31 are zero
+abbrev pub offerBytes : LastBytes
+offerBytes = record { marks = 3; step = 0; lowest = 0; highest = 0 }
+
+-- the offers of a book: the letters, from block 1 on, as many as block 0 states, by the rule of edition 1
+abbrev pub offersSection : List ℕ → Section
+offersSection b = record { letters = ofrs; first = 1; number = 1; rows = offerCount b; last = offerBytes }
 
 -- 3: the layout, block 0 first, then the offer blocks, lowest first
 unfoldable pub layoutFault : List ℕ → Verdict
 layoutFault b =
-    andThen (unless (headHolds (blockOf b 0) (blockCount b)) (wrongLayout 0))
-    (first (λ j. offerBlockFault b (j + 1)) (blockCount b - 1))
+    andThen (unless (headHolds (blockOf b 0) (blockCount b)) (wrongLayout 0)) (sectionFault b (offersSection b))
 
 -- the first of the faults 1, 2, 3
 unfoldable pub formFault : List ℕ → Verdict
@@ -46,4 +56,4 @@ handedBack (Refused number place) part = []
 
 -- an offer's own 32 bytes; for a row that isn't there, or a book refused by 1 to 3, an empty part
 unfoldable pub ownBytes : List ℕ → ℕ → List ℕ
-ownBytes b row = handedBack (formFault b) (cond (ltb row (offerCount b)) (rowBytes b row) [])
+ownBytes b row = handedBack (formFault b) (cond (ltb row (offerCount b)) (rowBytes b 1 row) [])

@@ -1,5 +1,5 @@
 pub mod Blocks
+pub mod Section
 pub mod Layout
 pub mod Form
-pub mod Counted
 pub mod Read

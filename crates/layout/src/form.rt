@@ -1,21 +1,18 @@
 // The first fault among refusals 1, 2 and 3: the length, the check of every block, the layout of every block. Each block is
 // a part of the book, lent to the test of it.
 use crate::MOST_BYTES;
-use crate::OFRS;
 use crate::head::head_holds;
-use crate::rows::rows_here;
-use crate::rows::rows_hold;
+use crate::rows::section_fault;
+use crate::section::offers_section;
 use block::SIZE;
 use block::check::check_holds;
 use values::Verdict;
-use values::head::offers_in;
 ghost use mathlib.Core.Path.{_≡_};
-ghost use Prim.Native.Nat.{_+_, _-_, _≤_};
-ghost use Rattle.values.specs.Refusals.{andThen, first};
+ghost use Prim.Native.Nat.{_≤_};
+ghost use Rattle.values.specs.Refusals.{andThen};
 ghost use Rattle.values.specs.declared.Verdict.the-variants.{Passed};
 ghost use Rattle.layout.specs.Blocks.{blockCount};
-ghost use Rattle.layout.specs.Form.{lengthFault, checkFault, offerBlockFault, layoutFault, formFault};
-ghost use Rattle.layout.specs.Counted.{Counted};
+ghost use Rattle.layout.specs.Form.{lengthFault, checkFault, layoutFault, formFault};
 
 // 1: whole blocks, one at least, and no more bytes than the most.
 pub fn lengths(book: &[u8]) -> Verdict
@@ -48,31 +45,15 @@ fn checks(book: &[u8], blocks: usize) -> Verdict
     Verdict::Passed
 }
 
-// 3 at the offer blocks, lowest first.
-fn offer_blocks(book: &[u8], blocks: usize, offers: usize) -> Verdict
-    requires { ⌜ Counted (now book) blocks offers ⌝ }
-    ensures { λ r. ⌜ r ≡ first (λ j. offerBlockFault (now (book .entry)) (j + 1)) (blocks - 1) ⌝ }
-{
-    for j in 0..blocks - 1 {
-        let k = j + 1;
-        let at = k * SIZE;
-        if !rows_hold(&OFRS, &book[at..at + SIZE], k, rows_here(offers, k)) {
-            return Verdict::Refused(3, k as u32);
-        }
-    }
-    Verdict::Passed
-}
-
 // 3: the layout of block 0, then of the offer blocks.
 fn layouts(book: &[u8], blocks: usize) -> Verdict
     requires { ⌜ (blocks ≡ blockCount (now book)) × (1 ≤ blocks) ⌝ }
     ensures { λ r. ⌜ r ≡ layoutFault (now (book .entry)) ⌝ }
 {
-    let head = &book[0..SIZE];
-    if !head_holds(head, blocks) {
+    if !head_holds(&book[0..SIZE], blocks) {
         return Verdict::Refused(3, 0);
     }
-    offer_blocks(book, blocks, offers_in(head) as usize)
+    section_fault(book, offers_section(book))
 }
 
 // The first fault among 2 and 3, of a book whose length holds.

@@ -1,8 +1,8 @@
 // The layout of block 0.
 use crate::MOST_OFFERS;
-use crate::PLACES;
 use crate::RPMB;
 use crate::marks::absent_holds;
+use crate::section::blocks_for;
 use block::bytes::is_blank;
 use block::bytes::opens_with;
 use block::bytes::u16_at;
@@ -21,7 +21,7 @@ fn count_fits(s: &[u8], blocks: usize) -> bool
     if MOST_OFFERS < offers {
         return false;
     }
-    blocks == 1 + (offers as usize + 14) / PLACES
+    blocks == 1 + blocks_for(offers as usize)
 }
 
 // Whether the marks have no unused bit, and a value not given has zero bytes.
@@ -46,7 +46,7 @@ fn head_marks_hold(s: &[u8]) -> bool
 }
 
 // Whether the part is laid out as block 0 of a book of so many blocks.
-pub fn head_holds(s: &[u8], blocks: usize) -> bool
+pub(crate) fn head_holds(s: &[u8], blocks: usize) -> bool
     requires { ⌜ 512 ≤ length (now s) ⌝ }
     ensures { λ r. ⌜ r ≡ headHolds (now (s .entry)) blocks ⌝ }
 {

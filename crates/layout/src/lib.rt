@@ -5,6 +5,7 @@ pub mod head;
 pub mod marks;
 pub mod reader;
 pub mod rows;
+pub mod section;
 
 // The four letters that open a book, and those that open an offer block.
 pub const RPMB: [u8; 4] = *b"RPMB";
@@ -16,7 +17,7 @@ pub const MOST_BYTES: usize = 20992;
 
 pub const MOST_OFFERS: u32 = 600;
 
-// An offer block has fifteen places of 32 bytes, from byte 28 on.
+// A block of rows has fifteen places of 32 bytes, from byte 28 on.
 pub const PLACES: usize = 15;
 
 pub const PLACE_SIZE: usize = 32;

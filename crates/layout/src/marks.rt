@@ -8,7 +8,7 @@ ghost use Rattle.block.specs.Bytes.{u32At};
 ghost use Rattle.values.specs.Values.{absentIsZero};
 
 // Whether the value at a place of a part is given, by the bit of this weight in the marks, or has zero bytes.
-pub fn absent_holds(s: &[u8], at: usize, marks: u8, weight: u8) -> bool
+pub(crate) fn absent_holds(s: &[u8], at: usize, marks: u8, weight: u8) -> bool
     requires { ⌜ (at + 4 ≤ length (now s)) × (0 < weight) ⌝ }
     ensures { λ r. ⌜ r ≡ absentIsZero (eqb (marks / weight % 2) 1) (u32At (now (s .entry)) at) ⌝ }
 {

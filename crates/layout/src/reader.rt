@@ -20,12 +20,12 @@ pub fn offer_count(book: &[u8]) -> u32
     offers_in(&book[0..SIZE])
 }
 
-// A row's own bytes, chosen by block and place, in a book that has the row's block.
-pub fn row_bytes(book: &[u8], row: usize) -> &[u8]
-    requires { ⌜ (1 + row / 15) * 512 + 512 ≤ length (now book) ⌝ }
-    ensures { λ r. ⌜ (now r ≡ rowBytes (now (book .entry)) row) × (length (now r) ≡ 32) ⌝ }
+// A row's own bytes, chosen by block and place, in a book that has the row's block. The blocks of its section start at `first`.
+pub fn row_bytes(book: &[u8], first: usize, row: usize) -> &[u8]
+    requires { ⌜ (first + row / 15) * 512 + 512 ≤ length (now book) ⌝ }
+    ensures { λ r. ⌜ (now r ≡ rowBytes (now (book .entry)) first row) × (length (now r) ≡ 32) ⌝ }
 {
-    let from = (1 + row / PLACES) * SIZE;
+    let from = (first + row / PLACES) * SIZE;
     let block = &book[from..from + SIZE];
     let at = PLACES_FROM + row % PLACES * PLACE_SIZE;
     &block[at..at + PLACE_SIZE]
@@ -39,7 +39,7 @@ pub fn own_bytes(book: &[u8], row: usize) -> &[u8]
         return &book[0..0];
     }
     if row < offer_count(book) as usize {
-        row_bytes(book, row)
+        row_bytes(book, 1, row)
     } else {
         &book[0..0]
     }

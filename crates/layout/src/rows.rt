@@ -1,27 +1,50 @@
-// The layout of a block of rows.
+// The layout of a section's blocks: refusal 3 of blocks of rows.
 use crate::PLACE_SIZE;
 use crate::PLACES;
 use crate::PLACES_FROM;
 use crate::marks::absent_holds;
+use crate::section::LastBytes;
+use crate::section::Section;
+use crate::section::blocks_for;
+use crate::section::rows_here;
+use block::SIZE;
 use block::bytes::is_blank;
 use block::bytes::opens_with;
 use block::bytes::u16_at;
-use block::bytes::u32_at;
+use values::Verdict;
 ghost use mathlib.Core.Path.{_≡_};
-ghost use Prim.Native.Nat.{_-_, _*_, _≤_, _<_};
+ghost use Prim.Native.Nat.{_≤_};
 ghost use lib.ListN.{length};
-ghost use lib.Dec.{ltb};
 ghost use Rattle.laws.specs.Sum.{every};
 ghost use Rattle.layout.specs.Blocks.{placeOf};
-ghost use Rattle.layout.specs.Layout.{usedHolds, placeHolds, rowsHere, rowsHold};
+ghost use Rattle.layout.specs.Section.{lastHolds, usedHolds, placesHold, rowsHold, sectionFault, Fits};
 
-// Whether a used place has no unused mark or byte that is set, and a value not given has zero bytes. The marks are the lowest
-// of the last four bytes, which as one number are at most 3 where no other mark or byte is set.
-fn used_holds(p: &[u8]) -> bool
+// Whether the last four bytes of a used place follow the rule.
+fn last_holds(p: &[u8], last: LastBytes) -> bool
     requires { ⌜ 32 ≤ length (now p) ⌝ }
-    ensures { λ r. ⌜ r ≡ usedHolds (now (p .entry)) ⌝ }
+    ensures { λ r. ⌜ r ≡ lastHolds last (now (p .entry)) ⌝ }
 {
-    if 3 < u32_at(p, 28) {
+    if last.marks < p[28] {
+        return false;
+    }
+    if last.step < p[29] {
+        return false;
+    }
+    if p[30] < last.lowest {
+        return false;
+    }
+    if last.highest < p[30] {
+        return false;
+    }
+    p[31] == 0
+}
+
+// Whether the last bytes of a used place follow the rule, and a value not given has zero bytes.
+fn used_holds(p: &[u8], last: LastBytes) -> bool
+    requires { ⌜ 32 ≤ length (now p) ⌝ }
+    ensures { λ r. ⌜ r ≡ usedHolds last (now (p .entry)) ⌝ }
+{
+    if !last_holds(p, last) {
         return false;
     }
     let marks = p[28];
@@ -31,52 +54,43 @@ fn used_holds(p: &[u8]) -> bool
     absent_holds(p, 16, marks, 2)
 }
 
-// Whether all fifteen places of a block are laid out as used ones. Each is a part of the block.
-fn all_hold(s: &[u8]) -> bool
-    requires { ⌜ 512 ≤ length (now s) ⌝ }
-    ensures { λ r. ⌜ r ≡ every (λ i. usedHolds (placeOf (now (s .entry)) i)) 15 ⌝ }
+// Whether the first so many places of a block are laid out as used ones. Each is a part of the block.
+fn used_hold(s: &[u8], last: LastBytes, here: usize) -> bool
+    requires { ⌜ (512 ≤ length (now s)) × (here ≤ 15) ⌝ }
+    ensures { λ r. ⌜ r ≡ every (λ i. usedHolds last (placeOf (now (s .entry)) i)) here ⌝ }
 {
-    for i in 0..PLACES {
+    for i in 0..here {
         let at = PLACES_FROM + i * PLACE_SIZE;
-        if !used_holds(&s[at..at + PLACE_SIZE]) {
+        if !used_holds(&s[at..at + PLACE_SIZE], last) {
             return false;
         }
     }
     true
 }
 
-// Whether all fifteen places of a block hold, of which the first are used. An unused one is all zero, as a used one may be, so
-// that what is left to test is the bytes from the first of them on.
-fn places_hold(s: &[u8], here: usize) -> bool
-    requires { ⌜ 512 ≤ length (now s) ⌝ }
-    ensures { λ r. ⌜ r ≡ every (λ i. placeHolds (ltb i here) (placeOf (now (s .entry)) i)) 15 ⌝ }
+// Whether all fifteen places of a block hold, of which the first are used and the bytes from the first unused one on are zero.
+// A block that is full has a call of its own, whose loop has a constant count.
+fn places_hold(s: &[u8], last: LastBytes, here: usize) -> bool
+    requires { ⌜ (512 ≤ length (now s)) × (here ≤ 15) ⌝ }
+    ensures { λ r. ⌜ r ≡ placesHold last (now (s .entry)) here ⌝ }
 {
-    if !all_hold(s) {
-        return false;
+    if here == PLACES {
+        return used_hold(s, last, PLACES);
     }
-    if PLACES <= here {
-        return true;
+    if !used_hold(s, last, here) {
+        return false;
     }
     let from = PLACES_FROM + here * PLACE_SIZE;
     let left = (PLACES - here) * PLACE_SIZE;
     is_blank(s, from, left)
 }
 
-// How many of so many rows stand in block k, from 1.
-pub fn rows_here(rows: usize, k: usize) -> usize
-    requires { ⌜ (0 < k) × ((k - 1) * 15 ≤ rows) ⌝ }
-    ensures { λ r. ⌜ r ≡ rowsHere rows k ⌝ }
+// Whether the part is laid out as block number k of a section, with so many rows in it.
+fn rows_hold(s: &[u8], section: Section, k: usize, here: usize) -> bool
+    requires { ⌜ (512 ≤ length (now s)) × (here ≤ 15) ⌝ }
+    ensures { λ r. ⌜ r ≡ rowsHold section (now (s .entry)) k here ⌝ }
 {
-    let left = rows - (k - 1) * PLACES;
-    if left < PLACES { left } else { PLACES }
-}
-
-// Whether the part is laid out as block number k, opened by these letters, with so many rows in it.
-pub fn rows_hold(letters: &[u8; 4], s: &[u8], k: usize, here: usize) -> bool
-    requires { ⌜ 512 ≤ length (now s) ⌝ }
-    ensures { λ r. ⌜ r ≡ rowsHold (now (letters .entry)) (now (s .entry)) k here ⌝ }
-{
-    if !opens_with(s, letters) {
+    if !opens_with(s, &section.letters) {
         return false;
     }
     if u16_at(s, 4) as usize != k {
@@ -88,5 +102,20 @@ pub fn rows_hold(letters: &[u8; 4], s: &[u8], k: usize, here: usize) -> bool
     if !is_blank(s, 8, 20) {
         return false;
     }
-    places_hold(s, here)
+    places_hold(s, section.last, here)
+}
+
+// 3 at the blocks of a section, lowest first.
+pub fn section_fault(book: &[u8], section: Section) -> Verdict
+    requires { ⌜ Fits (now book) section ⌝ }
+    ensures { λ r. ⌜ r ≡ sectionFault (now (book .entry)) section ⌝ }
+{
+    for j in 0..blocks_for(section.rows) {
+        let k = section.number + j;
+        let at = (section.first + j) * SIZE;
+        if !rows_hold(&book[at..at + SIZE], section, k, rows_here(section.rows, j)) {
+            return Verdict::Refused(3, k as u32);
+        }
+    }
+    Verdict::Passed
 }

@@ -78,7 +78,7 @@ module _ {out : List ℕ} {at : ℕ} {after : List ℕ} {end : ℕ} {quote : Cle
 
 -- the line of a row of a book, by what was read of the row and paid for it
 pub row-told : {out : List ℕ} {at : ℕ} {after : List ℕ} {end : ℕ} (b part : List ℕ) (row cleared committed paid mills : ℕ)
-    (o : Offer) → part ≡ rowBytes b row → o ≡ offerOf part → paid ≡ mills
+    (o : Offer) → part ≡ rowBytes b 1 row → o ≡ offerOf part → paid ≡ mills
     → Fitted out at (rowText (o .resource) cleared committed paid) after end
     → Fitted out at (rowText (bookOffer b row .resource) cleared committed mills) after end
 unfolding bookOffer

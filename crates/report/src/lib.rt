@@ -39,7 +39,7 @@ fn put_offer(
     requires { ⌜ at + 54 ≤ length (now out) ⌝ }
     ensures { λ r. ⌜ Fitted (now (out .entry)) at (rowText (bookOffer (now (book .entry)) row .resource) cleared committed (mills (quoted price) (committed - cleared))) (now (out .exit)) r × (r ≤ at + 54) ⌝ }
 {
-    let o = offer_in(row_bytes(book, row));
+    let o = offer_in(row_bytes(book, 1, row));
     put_row(
         out,
         at,
@@ -60,7 +60,7 @@ fn put_rows(
     cleared: &[u32],
     committed: &[u32],
 ) -> usize
-    requires { ⌜ Inside (now book) n × (n ≤ length (now cleared)) × (n ≤ length (now committed)) ⌝ }
+    requires { ⌜ Inside (now book) 1 n × (n ≤ length (now cleared)) × (n ≤ length (now committed)) ⌝ }
     requires { ⌜ at + 54 * n ≤ length (now out) ⌝ }
     ensures { λ r. ⌜ Fitted (now (out .entry)) at (rowsText (soldLine (now (book .entry)) (quoted price) (now (cleared .entry)) (now (committed .entry))) n) (now (out .exit)) r × (r ≤ at + 54 * n) ⌝ }
 {

@@ -41,7 +41,7 @@ put-rows-requires c κs =
     let count = counted .offer-count .ensures .0 in
     let inside = accepted-inside _ (start .pre .0) in (
       (
-        subst (Inside _) (sym count) inside,
+        subst (Inside _ 1) (sym count) inside,
         omega (arith, count, inside .few, start .pre .1 .0 .0),
         omega (arith, count, inside .few, start .pre .1 .0 .1),
       ),

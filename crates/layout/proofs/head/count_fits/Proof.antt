@@ -13,19 +13,19 @@ returns : tie.Need-returns
 unfolding countFits
 returns c = search ways
 
-cast-result : tie.Need-cast-result
-cast-result c = search needs
+cast-blocks-for : tie.Need-cast-blocks-for
+cast-blocks-for c = search needs
+
+blocks-for-requires : tie.Need-blocks-for-requires
+blocks-for-requires c κs = search needs
 
 add-result : tie.Need-add-result
 add-result c = search needs
 
-add-result-2 : tie.Need-add-result-2
-add-result-2 c = search needs
-
 returns-2 : tie.Need-returns-2
 unfolding countFits
-returns-2 c = most-held _ _ _ _ _ (c .before .offers-in .ensures .0) (c .if1 .left) (cc)
+returns-2 c = most-held _ _ _ _ _ (c .before .before .offers-in .ensures .0) (c .before .if1 .left) (cc)
 
 pub count-fits-spec : {M : Type 1} → statement M
 count-fits-spec =
-    tie.close (tie.spec offers-in-requires returns cast-result add-result add-result-2 returns-2)
+    tie.close (tie.spec offers-in-requires returns cast-blocks-for blocks-for-requires add-result returns-2)

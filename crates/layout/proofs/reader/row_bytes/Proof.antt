@@ -45,8 +45,8 @@ part-result-end c = search needs
 
 returns : tie.Need-returns
 returns c =
-    let same = row-part _ _ in
-    (same, ap length same ∙ row-length _ _ (c .before .before .pre))
+    let same = row-part _ _ _ in
+    (same, ap length same ∙ row-length _ _ _ (c .before .before .pre))
 
 pub row-bytes-spec : {M : Type 1} → statement M
 row-bytes-spec =

@@ -1,22 +1,25 @@
--- `places_hold` meets its contract: it leaves where a place is not laid out as a used one, or where none is unused.
+-- `places_hold` meets its contract: a full block is tested by its used places alone; else it leaves where one of them fails.
 -- Assumes nothing.
 use mathlib.Core.Path.{sym, _∙_}
 use borrow.Author.Needs.{needs}
+use native.Mathlib.Omega.{arith}
 use Rattle.laws.proofs.Ways.{answer-failed, answer-held}
-use Rattle.layout.proofs.Places.{places-rest, rest-none}
+use Rattle.layout.proofs.Places.{places-rest, places-full}
 use Rattle.layout.proofs.rows.places_hold.Statement.{statement}
 use Rattle.layout.proofs.rows.places_hold.Tie as tie
 
-all-hold-requires : tie.Need-all-hold-requires
-all-hold-requires c κs = search needs
+used-hold-requires : tie.Need-used-hold-requires
+used-hold-requires c κs = search needs
 
 returns : tie.Need-returns
-returns c = answer-failed _ _ _ (c .before .all-hold .ensures) (c .if1 .taken) ∙ sym (places-rest _ _)
+returns c = c .used-hold .ensures ∙ sym (places-full _ _ _ (c .before .if1 .taken))
+
+used-hold-requires-2 : tie.Need-used-hold-requires-2
+used-hold-requires-2 c κs = search needs
 
 returns-2 : tie.Need-returns-2
 returns-2 c =
-    answer-held _ _ _ _ (c .before .before .all-hold .ensures) (c .before .if1 .left) (rest-none _ _ (c .if2 .taken))
-    ∙ sym (places-rest _ _)
+    answer-failed _ _ _ (c .before .used-hold2 .ensures) (c .if2 .taken) ∙ sym (places-rest _ _ _ (omega arith))
 
 mul-from : tie.Need-mul-from
 mul-from c = search needs
@@ -35,15 +38,16 @@ is-blank-requires c κs = search needs
 
 returns-3 : tie.Need-returns-3
 returns-3 c =
-    answer-held _ _ _ _ (c .before .before .before .all-hold .ensures) (c .before .before .if1 .left) (c .is-blank .ensures)
-    ∙ sym (places-rest _ _)
+    answer-held _ _ _ _ (c .before .before .used-hold2 .ensures) (c .before .if2 .left) (c .is-blank .ensures)
+    ∙ sym (places-rest _ _ _ (omega arith))
 
 pub places-hold-spec : {M : Type 1} → statement M
 places-hold-spec =
     tie.close
     (tie.spec
-    all-hold-requires
+    used-hold-requires
     returns
+    used-hold-requires-2
     returns-2
     mul-from
     add-from

@@ -2,7 +2,7 @@
 -- Assumes nothing.
 use borrow.Author.Needs.{needs}
 use Rattle.laws.proofs.Ways.{ways}
-use Rattle.layout.specs.Layout.{rowsHold}
+use Rattle.layout.specs.Section.{rowsHold}
 use Rattle.layout.proofs.rows.rows_hold.Statement.{statement}
 use Rattle.layout.proofs.rows.rows_hold.Tie as tie
 

@@ -73,7 +73,7 @@ slice-aggregate-read-rows-4 c = search needs
 read-rows-requires : tie.Need-read-rows-requires
 read-rows-requires c κs =
     let count = c .before .before .before .before .before .before .before .before .offer-count .ensures .0 in
-    let inside = subst (Inside _) (sym count) (accepted-inside _ (c .before .before .before .before .before .before .before .before .before .before .pre)) in
+    let inside = subst (Inside _ 1) (sym count) (accepted-inside _ (c .before .before .before .before .before .before .before .before .before .before .pre)) in
     let room : c .before .before .before .before .before .before .before .before .offer-count .result ≤ length (zeros 600) = omega (arith, inside .few, length-zeros 600) in
     (inside, record { price = room; quantity = room; least = room; resource = room })
 

@@ -1,4 +1,4 @@
--- `all_hold` tells whether all fifteen places are laid out as used ones. The loop's invariant: those passed are.
+-- `used_hold` tells whether the first so many places are laid out as used ones. The loop's invariant: those passed are.
 -- Assumes nothing.
 use mathlib.Core.Path.{_≡_, ap, _∙_}
 use mathlib.Core.Bool.{true}
@@ -10,15 +10,15 @@ use Rattle.laws.proofs.Ways.{place-held, place-failed, places-held}
 use Rattle.layout.proofs.Parts.{place-part}
 use Rattle.laws.specs.Sum.{every}
 use Rattle.layout.specs.Blocks.{placeOf}
-use Rattle.layout.specs.Layout.{usedHolds}
-use Rattle.layout.proofs.rows.all_hold.Statement.{statement}
-use Rattle.layout.proofs.rows.all_hold.Tie as tie
+use Rattle.layout.specs.Section.{usedHolds}
+use Rattle.layout.proofs.rows.used_hold.Statement.{statement}
+use Rattle.layout.proofs.rows.used_hold.Tie as tie
 
 abbrev Inv-loop : tie.InvT-loop
-Inv-loop s i₀ i = (i ≤ 15) × (every (λ j. usedHolds (placeOf s j)) i ≡ true)
+Inv-loop s last here i₀ i = (i ≤ here) × (every (λ j. usedHolds last (placeOf s j)) i ≡ true)
 
 abbrev μ-loop : tie.MeasureT-loop
-μ-loop s i₀ i = 15 - i
+μ-loop s last here i₀ i = here - i
 
 loop-holds : tie.Need-loop-holds Inv-loop μ-loop
 loop-holds c = (search needs, every-zero _)
@@ -48,11 +48,11 @@ used-holds-requires c κs = search needs
 as-place : (c : tie.After-used-holds Inv-loop μ-loop) →
     let args = c .before .before .before .before .before .args in
     let i = c .before .before .before .loop .i in
-    c .used-holds .result ≡ usedHolds (placeOf (args .s .now) i)
-as-place c = c .used-holds .ensures ∙ ap usedHolds (place-part _ _)
+    c .used-holds .result ≡ usedHolds (args .last) (placeOf (args .s .now) i)
+as-place c = c .used-holds .ensures ∙ ap (usedHolds _) (place-part _ _)
 
 returns : tie.Need-returns Inv-loop μ-loop
-returns c = place-failed _ _ 15 (c .before .before .before .loop-test .taken) (as-place (c .before)) (c .if1 .taken)
+returns c = place-failed _ _ _ (c .before .before .before .loop-test .taken) (as-place (c .before)) (c .if1 .taken)
 
 add-i : tie.Need-add-i Inv-loop μ-loop
 add-i c = search needs
@@ -69,8 +69,8 @@ loop-again c = (
 returns-2 : tie.Need-returns-2 Inv-loop μ-loop
 returns-2 c = places-held _ (c .before .loop .inv .1) (omega arith)
 
-pub all-hold-spec : {M : Type 1} → statement M
-all-hold-spec =
+pub used-hold-spec : {M : Type 1} → statement M
+used-hold-spec =
     tie.close
     (tie.spec
     Inv-loop
