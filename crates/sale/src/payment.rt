@@ -2,6 +2,7 @@
 use crate::Clearing;
 use crate::sell::sell;
 use crate::terms_of;
+use calendar::days_of;
 use curve::points_2026;
 use settle::commit;
 use settle::mills_of;
@@ -9,17 +10,9 @@ use values::head::Parameters;
 ghost use mathlib.Core.Path.{_≡_};
 ghost use Prim.Native.Nat.{_≤_};
 ghost use lib.ListN.{length};
-ghost use Rattle.auction.specs.Settlement.{daysOf};
 ghost use Rattle.columns.specs.Columns.{columnsOf, empty, ColumnsRead};
 ghost use Rattle.sale.specs.Sale.{Clearable};
 ghost use Rattle.sale.specs.Payment.{ClearedAs};
-
-// The number of days of the delivery year that starts in a calendar year.
-pub fn days_of(year: u32) -> u64
-    ensures { λ r. ⌜ (r ≡ daysOf year) × (r ≤ 366) ⌝ }
-{
-    365
-}
 
 // What n rows of a book clear under parameters, with each row's cleared and committed tenths. The rows stand in the columns.
 pub fn clearing(
