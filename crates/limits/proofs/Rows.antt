@@ -25,13 +25,13 @@ use Rattle.limits.proofs.Lowest.{by-first, first-fewer}
 
 -- ---- the second pass: a repeat was found before the refused row, or none was
 
-module _ (values : Verdict) (resources : ℕ → ℕ) (n limit repeat : ℕ)
-    (before : limit ≡ rowsBefore values n) (searched : repeat ≡ firstRepeat resources limit) where
-  pub withRepeats-repeat : repeat < limit → repeatedResource repeat ≡ withRepeats values resources n
+module _ (found : Verdict) (resources : ℕ → ℕ) (n limit repeat : ℕ)
+    (before : limit ≡ rowsBefore found n) (searched : repeat ≡ firstRepeat resources limit) where
+  pub withRepeats-repeat : repeat < limit → repeatedResource repeat ≡ withRepeats found resources n
   unfolding withRepeats
   withRepeats-repeat l = rw (← before, ← searched, lt-ltb repeat limit l)
 
-  pub withRepeats-none : limit ≤ repeat → values ≡ withRepeats values resources n
+  pub withRepeats-none : limit ≤ repeat → found ≡ withRepeats found resources n
   unfolding withRepeats
   withRepeats-none l = rw (← before, ← searched, le-ltb repeat limit l)
 
@@ -85,12 +85,12 @@ module _ (pricesNeeded : Bool) (offers : ℕ → Offer) where
   limit-refused : (n row number place : ℕ)
       → row < n → first valuesTest row ≡ Passed → valuesTest row ≡ Refused number place → Limit n (limitOf n)
   limit-refused n row number place l e t =
-      let values = first-refused valuesTest n row number place l e t in
+      let found = first-refused valuesTest n row number place l e t in
       let both = andThen-refused (valuesTest row) (repeatFault resource row) number place t in
-      rw (values, offerFault-row pricesNeeded (offers row) row number place t) record {
+      rw (found, offerFault-row pricesNeeded (offers row) row number place t) record {
         within = omega arith;
         passed = e;
-        decide = λ f. first-refused rowTest n row number place l (rows-pass row e f) both ∙ sym values;
+        decide = λ f. first-refused rowTest n row number place l (rows-pass row e f) both ∙ sym found;
       }
 
   rows-limit : (n : ℕ) → Limit n (limitOf n)
