@@ -58,11 +58,11 @@ pub parameter-fault-decided : (p : Parameters) (r s : Verdict)
     → parameter-fault.Post tt (p, tt) r (p, tt) → parameter-fault.Post tt (p, tt) s (p, tt) → r ≡ s
 parameter-fault-decided p r s e f = e ∙ sym f
 
--- 6, where the price is needed, and 7, by the contract of `offer_fault`
-pub offer-fault-decided : (needed : Bool) (o : Offer) (row : ℕ) (r s : Verdict)
-    → offer-fault.Post tt (needed, (o, (row, tt))) r (needed, (o, (row, tt)))
-    → offer-fault.Post tt (needed, (o, (row, tt))) s (needed, (o, (row, tt))) → r ≡ s
-offer-fault-decided needed o row r s e f = e ∙ sym f
+-- 6, where prices are needed, and 7, by the contract of `offer_fault`
+pub offer-fault-decided : (pricesNeeded : Bool) (o : Offer) (row : ℕ) (r s : Verdict)
+    → offer-fault.Post tt (pricesNeeded, (o, (row, tt))) r (pricesNeeded, (o, (row, tt)))
+    → offer-fault.Post tt (pricesNeeded, (o, (row, tt))) s (pricesNeeded, (o, (row, tt))) → r ≡ s
+offer-fault-decided pricesNeeded o row r s e f = e ∙ sym f
 
 -- the first row that repeats a resource number, by the contract of `first_repeat`
 pub first-repeat-decided : (κs : Lfts 1) (resources others : RefT (List ℕ)) (n r s : ℕ)

@@ -53,15 +53,15 @@ pub fn fresh_rows(resources: &[u32], n: usize) -> usize
     let mut met = [false; 8192];
     for row in 0..n {
         let number = resources[row];
-        let first = place_of_sum(number);
-        let second = place_of_product(number);
-        if met[first] & met[second] {
+        let by_sum = place_of_sum(number);
+        let by_product = place_of_product(number);
+        if met[by_sum] & met[by_product] {
             if !absent(resources, row, number) {
                 return row;
             }
         }
-        met[first] = true;
-        met[second] = true;
+        met[by_sum] = true;
+        met[by_product] = true;
     }
     n
 }
