@@ -22,7 +22,12 @@ pub fn cases() -> Vec<Case> {
         case("600 tied, equal, stamps rising", written(&rising()), 0.7),
         case("600, the last row repeats a resource", written(&last_repeats()), 1.0),
         case("600, resources equal in their low 16 bits", written(&low_halves_equal()), 1.0),
-        case("600, resources that share one flag", written(&one_flag()), 1.0),
+        case("600, resources equal in their high 16 bits", written(&high_halves_equal()), 1.0),
+        case("600, resources whose halves add up alike", written(&halves_add_up_alike()), 1.0),
+        case("600, resources in steps of 1", written(&in_steps(1)), 1.0),
+        case("600, resources in steps of 8,192", written(&in_steps(8_192)), 1.0),
+        case("600, resources in steps of 55,803,904", written(&in_steps(55_803_904)), 1.0),
+        case("600, resources at random", written(&at_random()), 1.0),
         case("15 offers", written(&distinct()[..15]), 1.0),
         case("no offers", written(&[]), 1.0),
         case("refused by 1", written(&distinct())[1..].to_vec(), 1.0),
@@ -75,9 +80,30 @@ fn low_halves_equal() -> Vec<Offer> {
     numbered(|at| (at + 1) * 65_536 + 4_321)
 }
 
-/// The worst that resource numbers can do to the library's table of flags: each number's two halves add up to the same.
-fn one_flag() -> Vec<Offer> {
+fn high_halves_equal() -> Vec<Offer> {
+    numbered(|at| 4_321 * 65_536 + 7 * at + 1)
+}
+
+/// Each number's two halves add up to the same, so that all have one of their two flags in common.
+fn halves_add_up_alike() -> Vec<Offer> {
     numbered(|at| (at + 1) * 65_536 + (4_321 - at))
+}
+
+/// Numbers in equal steps. Of all steps tried, those of 55,803,904 make the most rows meet two flags that others have set.
+fn in_steps(step: u32) -> Vec<Offer> {
+    numbered(|at| (at + 1).wrapping_mul(step))
+}
+
+/// Numbers in no order, by a generator that repeats none.
+fn at_random() -> Vec<Offer> {
+    let mut number = 1u32;
+    let mut next = || {
+        number ^= number << 13;
+        number ^= number >> 17;
+        number ^= number << 5;
+        number
+    };
+    distinct().into_iter().map(|offer| Offer { resource: next(), ..offer }).collect()
 }
 
 fn last_check_wrong() -> Vec<u8> {

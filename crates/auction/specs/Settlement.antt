@@ -18,7 +18,3 @@ mills (some price) tenths = price * tenths
 -- make-whole, mills per day: the price times what is committed past what cleared
 abbrev pub makeWhole : Option ℕ → Option ℕ → ℕ → ℕ
 makeWhole price block c = mills price (committed block c - c)
-
--- the days of the delivery year that starts on 1 June of `year`
-unfoldable pub daysOf : ℕ → ℕ
-daysOf year = 365

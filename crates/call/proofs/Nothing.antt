@@ -6,7 +6,7 @@ use mathlib.Core.Option.{none}
 use Prim.Native.Nat.{ℕ, _*_}
 use native.Mathlib.Nat.{mul-zero}
 use Rattle.laws.proofs.Sums.{sumTo-none}
-use Rattle.auction.specs.Settlement.{daysOf}
+use Rattle.calendar.specs.Year.{daysOf}
 use Rattle.auction.proofs.Price.{price-none}
 use Rattle.values.specs.declared.head.Parameters.{Parameters}
 use Rattle.market.specs.Price.{asPrice}

@@ -5,6 +5,7 @@ mod refused;
 
 use accepted::explain_market;
 use accepted::explain_rows;
+use calendar::days_of;
 use call::Answer;
 use call::clear;
 use libc::STDIN_FILENO;
@@ -12,7 +13,6 @@ use page::stated::say_stated;
 use page::totals::say_totals;
 use refused::explain_refusal;
 use sale::Clearing;
-use sale::payment::days_of;
 use workings::read::Head;
 use workings::read::head_of;
 

@@ -1,9 +1,9 @@
 -- What a table of flags shows of the rows passed, where each resource number has a place in the table.
 --
--- In order: no row; one row more; a row whose flag is not set.
+-- In order: no row; a flag more; one row more; a row whose flag is not set; of two flags that are not both set, which.
 -- Assumes nothing.
-use mathlib.Core.Path.{_≡_, sym, _∙_}
-use mathlib.Core.Bool.{Bool, true, false, true≢false}
+use mathlib.Core.Path.{_≡_, refl, sym, _∙_}
+use mathlib.Core.Bool.{Bool, true, false, _&&_, true≢false}
 use mathlib.Core.List.{List}
 use Prim.Native.Nat.{ℕ, _+_, _<_}
 use native.Mathlib.Numerals.{add-one}
@@ -32,6 +32,12 @@ module _ (place resources : ℕ → ℕ) (met : List Bool) where
   pub flagged-none : Flagged place resources met 0
   flagged-none = record { flag = λ row l. absurd (not-suc-le-zero l) }
 
+  -- one more flag that is set
+  pub flagged-kept : (n p : ℕ) → p < length met
+      → Flagged place resources met n → Flagged place resources (set met p true) n
+  flagged-kept n p fits h =
+      record { flag = λ row l. set-kept met p (place (resources row)) fits (h .flag row l) }
+
   -- one row more, with its flag set
   pub flagged-more : (n p : ℕ) → p < length met → p ≡ place (resources n)
       → Flagged place resources met n → Flagged place resources (set met p true) (n + 1)
@@ -40,7 +46,7 @@ module _ (place resources : ℕ → ℕ) (met : List Bool) where
         flag =
             rw add-one
             (up-to-last _ n
-            (λ row l. set-kept met p (place (resources row)) fits (h .flag row l))
+            (flagged-kept n p fits h .flag)
             (rw (← e) (getD-set-same met p true false fits)));
       }
 
@@ -54,3 +60,8 @@ module _ (place resources : ℕ → ℕ) (met : List Bool) where
       let same : resources row ≡ resources n = eqb-true _ _ (not-false _ f) in
       let flag : getD met (place (resources n)) false ≡ true = rw same at (h .flag row l) in
       absurd (true≢false (sym flag ∙ rw e at unset)))
+
+-- of two flags that are not both set, one or the other is not
+pub by-unset {ℓ} : {X : Type ℓ} (s t : Bool) → s && t ≡ false → (s ≡ false → X) → (t ≡ false → X) → X
+by-unset true t e f g = g e
+by-unset false t e f g = f refl

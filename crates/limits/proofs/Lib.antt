@@ -8,3 +8,4 @@ pub mod Lowest
 pub mod Rows
 pub mod Passing
 pub mod PassingRows
+pub mod Decided

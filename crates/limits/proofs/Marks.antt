@@ -19,7 +19,7 @@ use Rattle.values.specs.Head.{parametersOf}
 use Rattle.values.specs.Refusals.{missingParameter, unless}
 use Rattle.values.specs.declared.Verdict.{Verdict}
 use Rattle.values.specs.declared.Verdict.the-variants.{Passed, Refused}
-use Rattle.limits.specs.Parameters.{needed, missingFault, missingMarks}
+use Rattle.limits.specs.Parameters.{fieldFault, missingFault, missingMarks}
 
 -- ---- two verdicts
 
@@ -53,11 +53,11 @@ gap-missing marks l =
 
 -- ---- the parameters of a block 0
 
-needed-valueOf : (field : ℕ) (mark : Bool) (number : ℕ) → needed field (valueOf mark number) ≡ unless mark (missingParameter field)
-needed-valueOf field true number = refl
-needed-valueOf field false number = refl
+fieldFault-valueOf : (field : ℕ) (mark : Bool) (number : ℕ) → fieldFault field (valueOf mark number) ≡ unless mark (missingParameter field)
+fieldFault-valueOf field true number = refl
+fieldFault-valueOf field false number = refl
 
 -- The marks of a block 0 tell which of its parameters is the first that is missing.
 pub marks-missing : (s : List ℕ) → missingMarks (getD s 26 0) ≡ missingFault (parametersOf s)
 unfolding missingMarks missingFault parametersOf
-marks-missing s = simp needed-valueOf
+marks-missing s = simp fieldFault-valueOf

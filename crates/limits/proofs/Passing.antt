@@ -17,7 +17,7 @@ use Rattle.values.specs.declared.Verdict.{Verdict}
 use Rattle.values.specs.declared.Verdict.the-variants.{Passed}
 use Rattle.values.specs.declared.head.Parameters.{Parameters}
 use Rattle.values.proofs.Firsts.{unless-passed, andThen-left, andThen-right}
-use Rattle.limits.specs.Parameters.{within, givenWithin, needed, offsetMost, missingFault, rangeFault}
+use Rattle.limits.specs.Parameters.{within, givenWithin, fieldFault, offsetMost, missingFault, rangeFault}
 use Rattle.limits.specs.Ranges.{Ranged}
 
 -- ---- numbers and values
@@ -41,20 +41,20 @@ record AllGiven (p : Parameters) : Type 0 where
   outage : p .outage ≡ Given (held (p .outage))
   requirement : p .requirement ≡ Given (held (p .requirement))
 
-needed-given : (field : ℕ) (v : Value) → needed field v ≡ Passed → v ≡ Given (held v)
-needed-given field (Given number) e = refl
-needed-given field Missing e = cc
+fieldFault-given : (field : ℕ) (v : Value) → fieldFault field v ≡ Passed → v ≡ Given (held v)
+fieldFault-given field (Given number) e = refl
+fieldFault-given field Missing e = cc
 
 all-given : (p : Parameters) → missingFault p ≡ Passed → AllGiven p
 unfolding missingFault
 all-given p e =
-    let from3 = andThen-right (needed 2 (p .cost)) _ e in
-    let from4 = andThen-right (needed 3 (p .offset)) _ from3 in
+    let from3 = andThen-right (fieldFault 2 (p .cost)) _ e in
+    let from4 = andThen-right (fieldFault 3 (p .offset)) _ from3 in
     record {
-      cost = needed-given 2 (p .cost) (andThen-left _ _ e);
-      offset = needed-given 3 (p .offset) (andThen-left _ _ from3);
-      outage = needed-given 4 (p .outage) (andThen-left _ _ from4);
-      requirement = needed-given 5 (p .requirement) (andThen-right (needed 4 (p .outage)) _ from4);
+      cost = fieldFault-given 2 (p .cost) (andThen-left _ _ e);
+      offset = fieldFault-given 3 (p .offset) (andThen-left _ _ from3);
+      outage = fieldFault-given 4 (p .outage) (andThen-left _ _ from4);
+      requirement = fieldFault-given 5 (p .requirement) (andThen-right (fieldFault 4 (p .outage)) _ from4);
     }
 
 -- each field's test of its range holds

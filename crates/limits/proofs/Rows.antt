@@ -25,13 +25,13 @@ use Rattle.limits.proofs.Lowest.{by-first, first-fewer}
 
 -- ---- the second pass: a repeat was found before the refused row, or none was
 
-module _ (values : Verdict) (resources : ℕ → ℕ) (n limit repeat : ℕ)
-    (before : limit ≡ rowsBefore values n) (searched : repeat ≡ firstRepeat resources limit) where
-  pub withRepeats-repeat : repeat < limit → repeatedResource repeat ≡ withRepeats values resources n
+module _ (found : Verdict) (resources : ℕ → ℕ) (n limit repeat : ℕ)
+    (before : limit ≡ rowsBefore found n) (searched : repeat ≡ firstRepeat resources limit) where
+  pub withRepeats-repeat : repeat < limit → repeatedResource repeat ≡ withRepeats found resources n
   unfolding withRepeats
   withRepeats-repeat l = rw (← before, ← searched, lt-ltb repeat limit l)
 
-  pub withRepeats-none : limit ≤ repeat → values ≡ withRepeats values resources n
+  pub withRepeats-none : limit ≤ repeat → found ≡ withRepeats found resources n
   unfolding withRepeats
   withRepeats-none l = rw (← before, ← searched, le-ltb repeat limit l)
 
@@ -75,22 +75,22 @@ module _ (pricesNeeded : Bool) (offers : ℕ → Offer) where
 
   -- the values pass up to a limit, and where no row before it repeats they decide
   record Limit (n limit : ℕ) : Type 0 where
-    within : limit ≤ n
+    inside : limit ≤ n
     passed : first valuesTest limit ≡ Passed
     decide : every (fresh resource) limit ≡ true → first rowTest n ≡ first valuesTest n
 
   limit-passed : (n : ℕ) → first valuesTest n ≡ Passed → Limit n (limitOf n)
-  limit-passed n e = rw e record { within = omega arith; passed = e; decide = λ f. rows-pass n e f ∙ sym e }
+  limit-passed n e = rw e record { inside = omega arith; passed = e; decide = λ f. rows-pass n e f ∙ sym e }
 
   limit-refused : (n row number place : ℕ)
       → row < n → first valuesTest row ≡ Passed → valuesTest row ≡ Refused number place → Limit n (limitOf n)
   limit-refused n row number place l e t =
-      let values = first-refused valuesTest n row number place l e t in
+      let found = first-refused valuesTest n row number place l e t in
       let both = andThen-refused (valuesTest row) (repeatFault resource row) number place t in
-      rw (values, offerFault-row pricesNeeded (offers row) row number place t) record {
-        within = omega arith;
+      rw (found, offerFault-row pricesNeeded (offers row) row number place t) record {
+        inside = omega arith;
         passed = e;
-        decide = λ f. first-refused rowTest n row number place l (rows-pass row e f) both ∙ sym values;
+        decide = λ f. first-refused rowTest n row number place l (rows-pass row e f) both ∙ sym found;
       }
 
   rows-limit : (n : ℕ) → Limit n (limitOf n)
@@ -116,7 +116,7 @@ module _ (pricesNeeded : Bool) (offers : ℕ → Offer) where
         → first rowTest n ≡ withRepeats (first valuesTest n) resources n
     passes-repeat row l f t =
         let searched = repeat-at resource (limitOf n) row l f t ∙ own in
-        rows-repeat n (limitOf n) row (rows-limit n .within) (rows-limit n .passed) l f t
+        rows-repeat n (limitOf n) row (rows-limit n .inside) (rows-limit n .passed) l f t
         ∙ withRepeats-repeat (first valuesTest n) resources n (limitOf n) row refl searched l
 
   -- The first fault of n rows is the first by 6 or 7, unless a resource number repeats in a row before it. The resource numbers

@@ -33,7 +33,7 @@ offerInRange o =
     && (within 1 200000 (o .quantity)
     && givenWithin 1 (o .quantity) (o .block))))
 
--- 6, where the price is needed, and 7
+-- 6, where prices are needed, and 7
 unfoldable pub offerFault : Bool → Offer → ℕ → Verdict
 offerFault pricesNeeded o row =
     andThen (cond pricesNeeded (priceFault (o .price) row) Passed) (unless (offerInRange o) (offerOutOfRange row))

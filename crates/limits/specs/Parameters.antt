@@ -20,18 +20,18 @@ abbrev pub givenWithin : ℕ → ℕ → Value → Bool
 givenWithin least most (Given number) = within least most number
 givenWithin least most Missing = true
 
--- a field that must be given
-abbrev pub needed : ℕ → Value → Verdict
-needed field (Given number) = Passed
-needed field Missing = missingParameter field
+-- 4 of one field: its value is missing
+abbrev pub fieldFault : ℕ → Value → Verdict
+fieldFault field (Given number) = Passed
+fieldFault field Missing = missingParameter field
 
 -- 4: the first missing field
 unfoldable pub missingFault : Parameters → Verdict
 missingFault p =
-    andThen (needed 2 (p .cost))
-    (andThen (needed 3 (p .offset))
-    (andThen (needed 4 (p .outage))
-    (needed 5 (p .requirement))))
+    andThen (fieldFault 2 (p .cost))
+    (andThen (fieldFault 3 (p .offset))
+    (andThen (fieldFault 4 (p .outage))
+    (fieldFault 5 (p .requirement))))
 
 -- the same by the marks alone, of which bits 0 to 3 say that fields 2 to 5 are given
 unfoldable pub missingMarks : ℕ → Verdict

@@ -14,14 +14,14 @@ use Rattle.limits.specs.Offers.{offerFault}
 unfoldable pub valuesFault : Bool → (ℕ → Offer) → ℕ → Verdict
 valuesFault pricesNeeded offers n = first (λ row. offerFault pricesNeeded (offers row) row) n
 
--- how many rows stand before the one that is refused: all n where none is
+-- how many rows stand before the one that the fault found refuses: all n where none is refused
 abbrev pub rowsBefore : Verdict → ℕ → ℕ
 rowsBefore Passed n = n
 rowsBefore (Refused number row) n = row
 
 -- a repeat among those rows comes before the refusal
 unfoldable pub withRepeats : Verdict → (ℕ → ℕ) → ℕ → Verdict
-withRepeats values resources n =
-    let limit = rowsBefore values n in
+withRepeats found resources n =
+    let limit = rowsBefore found n in
     let repeat = firstRepeat resources limit in
-    cond (ltb repeat limit) (repeatedResource repeat) values
+    cond (ltb repeat limit) (repeatedResource repeat) found

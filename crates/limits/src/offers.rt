@@ -30,7 +30,7 @@ fn offer_in_range(o: Offer) -> bool
         & given_within(1, o.quantity, block)
 }
 
-// 6, where the price is needed, and 7.
+// 6, where prices are needed, and 7.
 pub fn offer_fault(needed: bool, o: Offer, row: u32) -> Verdict
     ensures { λ r. ⌜ r ≡ offerFault needed o row ⌝ }
 {

@@ -28,25 +28,25 @@ pub fn first_repeat(resources: &[u32], n: usize) -> usize
 }
 
 // How many rows stand before the one that is refused: all n where none is.
-fn rows_before(values: Verdict, n: u32) -> u32
-    ensures { λ r. ⌜ r ≡ rowsBefore values n ⌝ }
+fn rows_before(found: Verdict, n: u32) -> u32
+    ensures { λ r. ⌜ r ≡ rowsBefore found n ⌝ }
 {
-    match values {
+    match found {
         Verdict::Passed => n,
         Verdict::Refused(_, row) => row,
     }
 }
 
-// The first fault of n rows, of which `values` is the first by 6 or 7: a repeat before that row comes first.
-pub fn with_repeats(values: Verdict, resources: &[u32], n: u32) -> Verdict
-    requires { ⌜ rowsBefore values n ≤ length (now resources) ⌝ }
-    ensures { λ r. ⌜ r ≡ withRepeats values (λ row. getD (now (resources .entry)) row 0) n ⌝ }
+// The first fault of n rows, where `found` is the first by 6 or 7: a repeat before that row comes first.
+pub fn with_repeats(found: Verdict, resources: &[u32], n: u32) -> Verdict
+    requires { ⌜ rowsBefore found n ≤ length (now resources) ⌝ }
+    ensures { λ r. ⌜ r ≡ withRepeats found (λ row. getD (now (resources .entry)) row 0) n ⌝ }
 {
-    let limit = rows_before(values, n) as usize;
+    let limit = rows_before(found, n) as usize;
     let repeat = first_repeat(resources, limit);
     if repeat < limit {
         Verdict::Refused(8, repeat as u32)
     } else {
-        values
+        found
     }
 }

@@ -15,7 +15,8 @@ use Rattle.laws.proofs.Sums.{sumTo-ext}
 use Rattle.laws.proofs.Filling.{length-filling}
 use Rattle.laws.proofs.FilledRows.{filled-row}
 use Rattle.auction.specs.Clearing.{clearedTotal}
-use Rattle.auction.specs.Settlement.{mills, daysOf}
+use Rattle.auction.specs.Settlement.{mills}
+use Rattle.calendar.specs.Year.{daysOf}
 use Rattle.auction.proofs.Total.{total-is-largest}
 use Rattle.auction.proofs.Price.{price-margin}
 use Rattle.auction.proofs.ShareLaws.{share-within}

@@ -10,7 +10,8 @@ use Rattle.laws.specs.Sum.{sumTo}
 use Rattle.auction.specs.Offers.{Offers, Demand}
 use Rattle.auction.specs.Clearing.{clearedTotal, clearingPrice}
 use Rattle.auction.specs.Shares.{cleared}
-use Rattle.auction.specs.Settlement.{committed, mills, makeWhole, daysOf}
+use Rattle.auction.specs.Settlement.{committed, mills, makeWhole}
+use Rattle.calendar.specs.Year.{daysOf}
 use Rattle.curve.specs.Price.{demandOf}
 use Rattle.values.specs.Values.{held}
 use Rattle.values.specs.Contents.{Contents, offerAt}

@@ -1,23 +1,15 @@
 // What rows clear and commit, and what is paid.
 use crate::Clearing;
 use crate::sell::sell;
+use calendar::days_of;
 use region::region_curve;
 use settle::commit;
 use settle::mills_of;
 use values::head::Parameters;
-ghost use mathlib.Core.Path.{_≡_};
 ghost use Prim.Native.Nat.{_≤_};
 ghost use lib.ListN.{length};
-ghost use Rattle.auction.specs.Settlement.{daysOf};
 ghost use Rattle.columns.specs.Columns.{columnsOf};
 ghost use Rattle.sale.specs.Sale.{SomeStand, ClearsColumns};
-
-// The number of days of the delivery year that starts in a calendar year.
-pub fn days_of(year: u32) -> u64
-    ensures { λ r. ⌜ (r ≡ daysOf year) × (r ≤ 366) ⌝ }
-{
-    365
-}
 
 // What n rows clear under parameters, with each row's cleared and committed tenths: the clearing of whatever contents stand in
 // the columns.

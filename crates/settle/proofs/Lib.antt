@@ -1,1 +1,2 @@
 pub mod Commits
+pub mod Decided

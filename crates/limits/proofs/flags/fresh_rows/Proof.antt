@@ -1,5 +1,5 @@
--- `limits::flags::fresh_rows` passes fresh rows only. The loop's invariant: each row passed is fresh, and the flag at the place
--- of its resource number is set.
+-- `limits::flags::fresh_rows` passes fresh rows only. The loop's invariant: each row passed is fresh, and the flags at both places
+-- of its resource number are set.
 -- Assumes nothing.
 use mathlib.Core.Path.{_≡_, sym, ap, _∙_}
 use mathlib.Core.Bool.{true}
@@ -11,10 +11,10 @@ use borrow.Author.Needs.{needs}
 use borrow.Author.Tests.{not-false}
 use Rattle.laws.specs.Sum.{every}
 use Rattle.laws.proofs.Everys.{every-zero}
-use Rattle.limits.specs.Flags.{mixed}
+use Rattle.limits.specs.Flags.{placeOfSum, placeOfProduct}
 use Rattle.limits.specs.Repeats.{fresh}
 use Rattle.limits.proofs.Failing.{every-more}
-use Rattle.limits.proofs.Flagged.{Flagged, flagged-none, flagged-more, unmet-fresh}
+use Rattle.limits.proofs.Flagged.{Flagged, flagged-none, flagged-kept, flagged-more, unmet-fresh, by-unset}
 use Rattle.limits.proofs.flags.fresh_rows.Statement.{statement}
 use Rattle.limits.proofs.flags.fresh_rows.Tie as tie
 
@@ -23,7 +23,8 @@ Inv-loop resources n met₀ row₀ met row =
     (row ≤ n)
     × (length met ≡ 8192)
     × (every (fresh (λ r. getD resources r 0)) row ≡ true)
-    × Flagged mixed (λ r. getD resources r 0) met row
+    × Flagged placeOfSum (λ r. getD resources r 0) met row
+    × Flagged placeOfProduct (λ r. getD resources r 0) met row
 
 abbrev μ-loop : tie.MeasureT-loop
 μ-loop resources n met₀ row₀ met row = n - row
@@ -32,7 +33,7 @@ returns : tie.Need-returns Inv-loop μ-loop
 returns c = (omega arith, every-zero _)
 
 loop-holds : tie.Need-loop-holds Inv-loop μ-loop
-loop-holds c = (search needs, search needs, every-zero _, flagged-none _ _ _)
+loop-holds c = (search needs, search needs, every-zero _, flagged-none _ _ _, flagged-none _ _ _)
 
 mul-number : tie.Need-mul-number Inv-loop μ-loop
 mul-number c = search needs
@@ -40,11 +41,17 @@ mul-number c = search needs
 shared-slice-read-number : tie.Need-shared-slice-read-number Inv-loop μ-loop
 shared-slice-read-number c = search needs
 
-mixed-requires : tie.Need-mixed-requires Inv-loop μ-loop
-mixed-requires c κs = search needs
+place-of-sum-requires : tie.Need-place-of-sum-requires Inv-loop μ-loop
+place-of-sum-requires c κs = search needs
+
+place-of-product-requires : tie.Need-place-of-product-requires Inv-loop μ-loop
+place-of-product-requires c κs = search needs
 
 array-read-if2 : tie.Need-array-read-if2 Inv-loop μ-loop
 array-read-if2 c = search needs
+
+array-read-if2-2 : tie.Need-array-read-if2-2 Inv-loop μ-loop
+array-read-if2-2 c = search needs
 
 absent-requires : tie.Need-absent-requires Inv-loop μ-loop
 absent-requires c κs = search needs
@@ -55,29 +62,39 @@ returns-2 c = search needs
 array-write-met : tie.Need-array-write-met Inv-loop μ-loop
 array-write-met c = search needs
 
+array-write-met-2 : tie.Need-array-write-met-2 Inv-loop μ-loop
+array-write-met-2 c = search needs
+
 add-row : tie.Need-add-row Inv-loop μ-loop
 add-row c = search needs
 
 loop-less : tie.Need-loop-less Inv-loop μ-loop
 loop-less c = search needs
 
--- the row's resource number stands in no earlier row, or its flag was not set
+-- the row's resource number stands in no earlier row, or one of its flags was not set
 row-fresh : (c : tie.Joined2 Inv-loop μ-loop)
-    → let head = c .before .before .before .before in
+    → let head = c .before .before .before .before .before in
     fresh (λ r. getD (head .before .before .before .args .resources .now) r 0) (head .loop .row) ≡ true
 row-fresh c =
+    let inv = c .before .before .before .before .before .loop .inv in
     ⊎-elim
     (λ w. sym (w .1 .ensures) ∙ not-false _ (w .2 .left))
-    (λ w. unmet-fresh _ _ _ _ _ (c .before .mixed .ensures .0) (c .before .before .before .before .loop .inv .3) (w .left))
+    (λ w.
+    by-unset _ _ (w .left)
+    (unmet-fresh _ _ _ _ _ (c .before .before .place-of-sum .ensures .0) (inv .3))
+    (unmet-fresh _ _ _ _ _ (c .before .place-of-product .ensures .0) (inv .4)))
     (c .if2 .came)
 
 loop-again : tie.Need-loop-again Inv-loop μ-loop
 loop-again c =
-    let inv = c .before .before .before .before .loop .inv in (
+    let inv = c .before .before .before .before .before .loop .inv in (
       omega arith,
       search needs,
       every-more _ _ (inv .2) (row-fresh c),
-      flagged-more _ _ _ _ _ (omega arith) (c .before .mixed .ensures .0) (inv .3),
+      flagged-kept _ _ _ _ _ (search needs)
+          (flagged-more _ _ _ _ _ (omega arith) (c .before .before .place-of-sum .ensures .0) (inv .3)),
+      flagged-more _ _ _ _ _ (search needs) (c .before .place-of-product .ensures .0)
+          (flagged-kept _ _ _ _ _ (omega arith) (inv .4)),
     )
 
 returns-3 : tie.Need-returns-3 Inv-loop μ-loop
@@ -93,11 +110,14 @@ fresh-rows-spec =
     loop-holds
     mul-number
     shared-slice-read-number
-    mixed-requires
+    place-of-sum-requires
+    place-of-product-requires
     array-read-if2
+    array-read-if2-2
     absent-requires
     returns-2
     array-write-met
+    array-write-met-2
     add-row
     loop-less
     loop-again

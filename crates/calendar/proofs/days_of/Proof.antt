@@ -1,10 +1,10 @@
 -- `days_of` meets its contract.
 -- Assumes nothing.
 use mathlib.Core.Path.{refl}
-use Rattle.auction.specs.Settlement.{daysOf}
+use Rattle.calendar.specs.Year.{daysOf}
 use native.Mathlib.Omega.{arith}
-use Rattle.sale.proofs.payment.days_of.Statement.{statement}
-use Rattle.sale.proofs.payment.days_of.Tie as tie
+use Rattle.calendar.proofs.days_of.Statement.{statement}
+use Rattle.calendar.proofs.days_of.Tie as tie
 
 returns : tie.Need-returns
 unfolding daysOf

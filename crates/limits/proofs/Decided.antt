@@ -1,0 +1,83 @@
+-- The contracts of the limits leave one answer: any two that a contract allows for the same arguments coincide, wherever the
+-- bytes and the resource numbers lie.
+--
+-- In order: 4 by the marks and in a block 0, numbers within limits, 5, 6 and 7 of an offer, 8. `fresh_rows` has no such law,
+-- and no caller outside: its answer only says where the search for a repeat may start.
+-- Assumes nothing.
+use mathlib.Core.Path.{_≡_, sym, ap, _∙_}
+use mathlib.Core.Bool.{Bool}
+use mathlib.Core.List.{List}
+use Prim.Native.Nat.{ℕ}
+use contract.Lifetimes.{Lfts}
+use denote.Ref.{RefT, now}
+use lib.ListN.{getD}
+use Rattle.values.specs.Head.{parametersOf}
+use Rattle.values.specs.declared.Value.{Value}
+use Rattle.values.specs.declared.Verdict.{Verdict}
+use Rattle.values.specs.declared.head.Parameters.{Parameters}
+use Rattle.values.specs.declared.place.Offer.{Offer}
+use Rattle.limits.specs.Parameters.{missingFault}
+use Rattle.limits.specs.Repeats.{firstRepeat}
+use Rattle.limits.specs.Rows.{withRepeats}
+use Rattle.limits.proofs.parameters.missing.Reads as missing
+use Rattle.limits.proofs.parameters.missing_in.Reads as missing-in
+use Rattle.limits.proofs.parameters.within.Reads as within
+use Rattle.limits.proofs.parameters.given_within.Reads as given-within
+use Rattle.limits.proofs.parameters.parameter_fault.Reads as parameter-fault
+use Rattle.limits.proofs.offers.offer_fault.Reads as offer-fault
+use Rattle.limits.proofs.repeats.first_repeat.Reads as first-repeat
+use Rattle.limits.proofs.repeats.with_repeats.Reads as with-repeats
+
+-- 4, by the contract of `missing`
+pub missing-decided : (marks : ℕ) (r s : Verdict)
+    → missing.Post tt (marks, tt) r (marks, tt) → missing.Post tt (marks, tt) s (marks, tt) → r ≡ s
+missing-decided marks r s e f = e ∙ sym f
+
+-- 4 of a block 0, by the contract of `missing_in`
+pub missing-in-decided : (κs : Lfts 1) (block other : RefT (List ℕ)) (r s : Verdict)
+    → now block ≡ now other
+    → missing-in.Post κs (block, tt) r (block, tt)
+    → missing-in.Post κs (other, tt) s (other, tt)
+    → r ≡ s
+missing-in-decided κs block other r s same e f = e ∙ ap (λ (b : List ℕ). missingFault (parametersOf b)) same ∙ sym f
+
+-- whether a number is from a least to a most, by the contract of `within`
+pub within-decided : (least most number : ℕ) (r s : Bool)
+    → within.Post tt (least, (most, (number, tt))) r (least, (most, (number, tt)))
+    → within.Post tt (least, (most, (number, tt))) s (least, (most, (number, tt))) → r ≡ s
+within-decided least most number r s e f = e ∙ sym f
+
+-- whether a value is missing, or given from a least to a most, by the contract of `given_within`
+pub given-within-decided : (least most : ℕ) (v : Value) (r s : Bool)
+    → given-within.Post tt (least, (most, (v, tt))) r (least, (most, (v, tt)))
+    → given-within.Post tt (least, (most, (v, tt))) s (least, (most, (v, tt))) → r ≡ s
+given-within-decided least most v r s e f = e ∙ sym f
+
+-- 5, by the contract of `parameter_fault`
+pub parameter-fault-decided : (p : Parameters) (r s : Verdict)
+    → parameter-fault.Post tt (p, tt) r (p, tt) → parameter-fault.Post tt (p, tt) s (p, tt) → r ≡ s
+parameter-fault-decided p r s e f = e ∙ sym f
+
+-- 6, where prices are needed, and 7, by the contract of `offer_fault`
+pub offer-fault-decided : (pricesNeeded : Bool) (o : Offer) (row : ℕ) (r s : Verdict)
+    → offer-fault.Post tt (pricesNeeded, (o, (row, tt))) r (pricesNeeded, (o, (row, tt)))
+    → offer-fault.Post tt (pricesNeeded, (o, (row, tt))) s (pricesNeeded, (o, (row, tt))) → r ≡ s
+offer-fault-decided pricesNeeded o row r s e f = e ∙ sym f
+
+-- the first row that repeats a resource number, by the contract of `first_repeat`
+pub first-repeat-decided : (κs : Lfts 1) (resources others : RefT (List ℕ)) (n r s : ℕ)
+    → now resources ≡ now others
+    → first-repeat.Post κs (resources, (n, tt)) r (resources, (n, tt))
+    → first-repeat.Post κs (others, (n, tt)) s (others, (n, tt))
+    → r ≡ s
+first-repeat-decided κs resources others n r s same e f =
+    e .0 ∙ ap (λ (rows : List ℕ). firstRepeat (λ row. getD rows row 0) n) same ∙ sym (f .0)
+
+-- the first fault of n rows, by the contract of `with_repeats`
+pub with-repeats-decided : (κs : Lfts 1) (found : Verdict) (resources others : RefT (List ℕ)) (n : ℕ) (r s : Verdict)
+    → now resources ≡ now others
+    → with-repeats.Post κs (found, (resources, (n, tt))) r (found, (resources, (n, tt)))
+    → with-repeats.Post κs (found, (others, (n, tt))) s (found, (others, (n, tt)))
+    → r ≡ s
+with-repeats-decided κs found resources others n r s same e f =
+    e ∙ ap (λ (rows : List ℕ). withRepeats found (λ row. getD rows row 0) n) same ∙ sym f
