@@ -1,9 +1,9 @@
 -- Laws of `ValuesRead` and `RowsRead`: what the loop over a book's rows has shown.
 --
 -- In order: no row yet; one more row that passes; a row that is refused; what the search for repeats needs, the rows' first
--- fault and their columns.
+-- fault and their columns; where there is none, all rows stand in them.
 -- Assumes nothing.
-use mathlib.Core.Path.{_≡_, sym, ap, _∙_}
+use mathlib.Core.Path.{_≡_, refl, sym, ap, subst, _∙_}
 use mathlib.Core.Bool.{Bool, true, false, cond}
 use mathlib.Core.List.{List}
 use Prim.Native.Nat.{ℕ, _+_, _≤_, _<_}
@@ -14,18 +14,18 @@ use Rattle.laws.proofs.Filling.{length-filling}
 use Rattle.laws.proofs.FilledRows.{filled-row}
 use Rattle.values.specs.Values.{held, leastOf}
 use Rattle.values.specs.Refusals.{repeatedResource}
+use Rattle.values.specs.Contents.{offerAt}
 use Rattle.values.specs.declared.Verdict.{Verdict}
 use Rattle.values.specs.declared.Verdict.the-variants.{Passed, Refused}
 use Rattle.values.specs.declared.place.Offer.{Offer}
 use Rattle.values.proofs.Firsts.{first-zero, first-on, first-refused}
 use Rattle.limits.specs.Repeats.{firstRepeat}
-use Rattle.limits.specs.Offers.{offerFault}
+use Rattle.limits.specs.Offers.{offerFault, rowsFault}
 use Rattle.limits.specs.Rows.{valuesFault, rowsBefore, withRepeats}
 use Rattle.limits.proofs.Rows.{rowsFault-passes}
 use Rattle.limits.proofs.Tested.{offerFault-row}
-use Rattle.layout.specs.Read.{bookOffer}
-use Rattle.columns.specs.Column.{resourceOf}
-use Rattle.columns.specs.Columns.{Columns}
+use Rattle.columns.specs.Column.{rowResource}
+use Rattle.columns.specs.Columns.{Columns, ColumnsRead}
 use Rattle.columns.proofs.Turns.{stored, columns-none, columns-more, columns-all}
 use Rattle.book.specs.Rows.{rowsTested, ValuesRead, RowsRead}
 
@@ -44,56 +44,85 @@ unfolding withRepeats
 repeats-passed values resources n e =
     passed-cond (ltb (firstRepeat resources (rowsBefore values n)) (rowsBefore values n)) _ values e
 
-module _ (needed : Bool) (b : List ℕ) where
+module _ (needed : Bool) (offers : List Offer) where
   -- where the loop begins
-  pub values-none : (lists : Columns) → ValuesRead needed b 0 Passed lists lists
+  pub values-none : (lists : Columns) → ValuesRead needed offers 0 Passed lists lists
   unfolding valuesFault
-  values-none lists = record { found = sym (first-zero _); within = omega arith; read = columns-none b lists }
+  values-none lists = record { found = sym (first-zero _); within = omega arith; read = columns-none offers lists }
 
-  module _ (row : ℕ) {before after : Columns} {o : Offer} {price least : ℕ} (r : ValuesRead needed b row Passed before after)
-      (own : o ≡ bookOffer b row) (p : price ≡ held (o .price)) (l : least ≡ leastOf (o .block)) where
+  module _ (row : ℕ) {before after : Columns} {o : Offer} {price least : ℕ} (r : ValuesRead needed offers row Passed before after)
+      (own : o ≡ offerAt offers row) (p : price ≡ held (o .price)) (l : least ≡ leastOf (o .block)) where
     -- one more row that passes
-    pub values-more : offerFault needed (bookOffer b row) row ≡ Passed
-        → ValuesRead needed b (row + 1) Passed before (stored after row o price least)
+    pub values-more : offerFault needed (offerAt offers row) row ≡ Passed
+        → ValuesRead needed offers (row + 1) Passed before (stored after row o price least)
     unfolding valuesFault
     values-more passed =
         record {
           found = sym (first-on _ row (sym (r .found)) passed);
           within = omega arith;
-          read = columns-more b row (r .read) own p l;
+          read = columns-more offers row (r .read) own p l;
         }
 
     -- a row that is refused, after rows that passed
-    pub values-refused : (n number place : ℕ) → row < n → offerFault needed (bookOffer b row) row ≡ Refused number place
-        → ValuesRead needed b n (Refused number place) before (stored after row o price least)
+    pub values-refused : (n number place : ℕ) → row < n → offerFault needed (offerAt offers row) row ≡ Refused number place
+        → ValuesRead needed offers n (Refused number place) before (stored after row o price least)
     unfolding valuesFault
     values-refused n number place h refused =
-        let same : place ≡ row = offerFault-row needed (bookOffer b row) row number place refused in
+        let same : place ≡ row = offerFault-row needed (offerAt offers row) row number place refused in
         record {
           found = sym (first-refused _ n row number place h (sym (r .found)) refused);
           within = omega arith;
-          read = columns-all (columns-more b row (r .read) own p l) (omega arith);
+          read = columns-all (columns-more offers row (r .read) own p l) (omega arith);
         }
 
-  module _ (n : ℕ) {fault : Verdict} {before after : Columns} (r : ValuesRead needed b n fault before after)
+  module _ (n : ℕ) {fault : Verdict} {before after : Columns} (r : ValuesRead needed offers n fault before after)
       (long : n ≤ length (before .resources)) where
     -- the rows before the refused one have their numbers in the list
     pub values-within : rowsBefore fault n ≤ length (after .resources)
     values-within =
-        omega (arith, before-tested fault n, r .within, length-filling (resourceOf b) _ _ (r .read .resource))
+        omega (arith, before-tested fault n, r .within, length-filling (rowResource offers) _ _ (r .read .resource))
 
-    own-numbers : (row : ℕ) → row < rowsBefore fault n → getD (after .resources) row 0 ≡ bookOffer b row .resource
+    own-numbers : (row : ℕ) → row < rowsBefore fault n → getD (after .resources) row 0 ≡ offerAt offers row .resource
     own-numbers row h =
-        filled-row (resourceOf b) (rowsTested fault n) (before .resources) (r .read .resource) (omega (arith, r .within)) row
+        filled-row (rowResource offers) (rowsTested fault n) (before .resources) (r .read .resource) (omega (arith, r .within)) row
         (omega (arith, before-tested fault n))
 
-    -- with the repeats among them it is the first fault of the rows, and where there is none all are read
-    pub values-rows : (v : Verdict) → v ≡ withRepeats fault (λ row. getD (after .resources) row 0) n
-        → RowsRead needed b n v before after
+  module _ {fault : Verdict} {before after : Columns} (r : ValuesRead needed offers (length offers) fault before after)
+      (long : length offers ≤ length (before .resources)) where
+    -- with the repeats among them it is the first fault of the rows
+    pub values-rows : (v : Verdict) → v ≡ withRepeats fault (λ row. getD (after .resources) row 0) (length offers)
+        → RowsRead needed offers v before after
     values-rows v e =
+        let n = length offers in
         record {
           found =
               e ∙ rw (r .found)
-              (sym (rowsFault-passes needed (bookOffer b) (λ row. getD (after .resources) row 0) n (rw (r .found) at own-numbers)));
-          read = λ passed. columns-all (r .read) (ap (λ f. rowsTested f n) (repeats-passed fault _ n (sym e ∙ passed)));
+              (sym (rowsFault-passes needed (offerAt offers) (λ row. getD (after .resources) row 0) n (rw (r .found) at (own-numbers n r long))));
+          read = columns-all (r .read) (ap (λ f. rowsTested f n) (r .found));
         }
+
+-- the same by the number of rows that the code has
+pub values-rows-by : (needed : Bool) (offers : List Offer) (n : ℕ) {fault : Verdict} {before after : Columns} → length offers ≡ n
+    → ValuesRead needed offers n fault before after → n ≤ length (before .resources)
+    → (v : Verdict) → v ≡ withRepeats fault (λ row. getD (after .resources) row 0) n → RowsRead needed offers v before after
+values-rows-by needed offers n {fault} {before} {after} e r long v =
+    subst (λ (m : ℕ). v ≡ withRepeats fault (λ row. getD (after .resources) row 0) m → RowsRead needed offers v before after) e
+    (values-rows needed offers (rw e r) (rw e long) v)
+
+-- the loop ends with as many rows as there are
+pub values-end : {needed : Bool} {offers : List Offer} {row n : ℕ} {before after : Columns}
+    → ValuesRead needed offers row Passed before after → row ≡ n → ValuesRead needed offers n Passed before after
+values-end r e = rw e at r
+
+-- rows that have no fault have none by 6 or 7
+values-passed : (needed : Bool) (offers : List Offer) → rowsFault needed (offerAt offers) (length offers) ≡ Passed
+    → valuesFault needed (offerAt offers) (length offers) ≡ Passed
+values-passed needed offers e =
+    let own : ℕ → ℕ = λ row. offerAt offers row .resource in
+    repeats-passed (valuesFault needed (offerAt offers) (length offers)) own (length offers)
+    (sym (rowsFault-passes needed (offerAt offers) own (length offers) (λ row l. refl)) ∙ e)
+
+-- so all of them stand in the columns
+pub rows-stored : (needed : Bool) (offers : List Offer) {before after : Columns} → RowsRead needed offers Passed before after
+    → ColumnsRead offers (length offers) before after
+rows-stored needed offers r = columns-all (r .read) (ap (λ f. rowsTested f (length offers)) (values-passed needed offers (sym (r .found))))

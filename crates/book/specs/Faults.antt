@@ -3,24 +3,28 @@
 use Prim.Native.Nat.{ℕ}
 use mathlib.Core.Bool.{true, false}
 use mathlib.Core.List.{List}
+use lib.ListN.{length}
 use Rattle.values.specs.Refusals.{andThen}
+use Rattle.values.specs.Contents.{Contents, offerAt}
 use Rattle.values.specs.declared.Verdict.{Verdict}
-use Rattle.layout.specs.Read.{bookParameters, bookOffer}
-use Rattle.layout.specs.Form.{formFault, offerCount}
-use Rattle.limits.specs.Parameters.{missingFault, rangeFault}
+use Rattle.layout.specs.Read.{contentsOf}
+use Rattle.layout.specs.Form.{formFault}
+use Rattle.limits.specs.Parameters.{rangeFault}
+use Rattle.limits.specs.Given.{parametersFault}
 use Rattle.limits.specs.Offers.{rowsFault}
 
--- What comes before the rows of a book that is to be cleared: 1; 2 over all blocks; 3 likewise; 4; 5 by field.
-unfoldable pub statedFault : List ℕ → Verdict
-statedFault b = andThen (formFault b) (andThen (missingFault (bookParameters b)) (rangeFault (bookParameters b)))
+-- what is found first in contents that are to be cleared: 4; 5 by field; rows from 0, each for 6, 7, 8
+unfoldable pub contentsFault : Contents → Verdict
+contentsFault c = andThen (parametersFault (c .parameters)) (rowsFault true (offerAt (c .offers)) (length (c .offers)))
 
--- THE TABLE. The first fault of a book that is to be cleared: what comes before the rows; then rows from 0, each for 6, 7, 8.
+-- THE TABLE. The first fault of a book that is to be cleared: 1; 2 over all blocks; 3 likewise; then 4 to 8 on what it says.
 unfoldable pub firstFault : List ℕ → Verdict
-firstFault b = andThen (statedFault b) (rowsFault true (bookOffer b) (offerCount b))
+firstFault b = andThen (formFault b) (contentsFault (contentsOf b))
+
+-- what is found first in contents where missing values are no fault: 5, 7 and 8 on what is given
+unfoldable pub givenFault : Contents → Verdict
+givenFault c = andThen (rangeFault (c .parameters)) (rowsFault false (offerAt (c .offers)) (length (c .offers)))
 
 -- A sound book passes 1 to 3, and its given values pass 5, 7 and 8; its missing values are no fault.
 unfoldable pub soundFault : List ℕ → Verdict
-soundFault b =
-    andThen (formFault b)
-    (andThen (rangeFault (bookParameters b))
-    (rowsFault false (bookOffer b) (offerCount b)))
+soundFault b = andThen (formFault b) (givenFault (contentsOf b))

@@ -4,11 +4,13 @@ use Prim.Native.Nat.{ℕ, _+_, _≤_}
 use mathlib.Core.Path.{_≡_}
 use mathlib.Core.Bool.{Bool}
 use mathlib.Core.List.{List}
+use lib.ListN.{length}
+use Rattle.values.specs.Contents.{offerAt}
 use Rattle.values.specs.declared.Verdict.{Verdict}
 use Rattle.values.specs.declared.Verdict.the-variants.{Passed, Refused}
+use Rattle.values.specs.declared.place.Offer.{Offer}
 use Rattle.limits.specs.Offers.{rowsFault}
 use Rattle.limits.specs.Rows.{valuesFault}
-use Rattle.layout.specs.Read.{bookOffer}
 use Rattle.columns.specs.Columns.{Columns, ColumnsRead}
 
 -- how many rows are read before the tests of values end: all n, or those up to the refused one
@@ -16,13 +18,17 @@ abbrev pub rowsTested : Verdict → ℕ → ℕ
 rowsTested Passed n = n
 rowsTested (Refused number row) n = row + 1
 
--- the first fault by 6 or 7 among n rows, and the columns of the rows up to it
-pub record ValuesRead (needed : Bool) (b : List ℕ) (n : ℕ) (fault : Verdict) (before after : Columns) : Type 0 where
-  pub found : fault ≡ valuesFault needed (bookOffer b) n
+-- the first fault by 6 or 7 among the first n offers, and the columns of the rows up to it
+pub record ValuesRead (needed : Bool) (offers : List Offer) (n : ℕ) (fault : Verdict) (before after : Columns) : Type 0 where
+  pub found : fault ≡ valuesFault needed (offerAt offers) n
   pub within : rowsTested fault n ≤ n
-  pub read : ColumnsRead b (rowsTested fault n) before after
+  pub read : ColumnsRead offers (rowsTested fault n) before after
 
--- the first fault of n rows, and where there is none the columns of all
-pub record RowsRead (needed : Bool) (b : List ℕ) (n : ℕ) (fault : Verdict) (before after : Columns) : Type 0 where
-  pub found : fault ≡ rowsFault needed (bookOffer b) n
-  pub read : fault ≡ Passed → ColumnsRead b n before after
+-- how many rows stand in the columns once they are tested: all, or those up to the first that 6 or 7 refuses
+abbrev pub rowsStored : Bool → List Offer → ℕ
+rowsStored needed offers = rowsTested (valuesFault needed (offerAt offers) (length offers)) (length offers)
+
+-- the first fault of offers, and the columns
+pub record RowsRead (needed : Bool) (offers : List Offer) (fault : Verdict) (before after : Columns) : Type 0 where
+  pub found : fault ≡ rowsFault needed (offerAt offers) (length offers)
+  pub read : ColumnsRead offers (rowsStored needed offers) before after

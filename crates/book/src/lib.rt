@@ -9,35 +9,35 @@ use layout::reader::offer_count;
 use limits::parameters::missing_in;
 use limits::parameters::parameter_fault;
 use values::Verdict;
+use values::and_then;
+use values::head::Parameters;
 use values::head::parameters_in;
 ghost use mathlib.Core.Path.{_≡_};
-ghost use Rattle.values.specs.Refusals.{andThen};
 ghost use Rattle.values.specs.declared.Verdict.the-variants.{Passed};
 ghost use Rattle.layout.specs.Form.{lengthFault};
-ghost use Rattle.book.specs.Faults.{statedFault, firstFault, soundFault};
+ghost use Rattle.book.specs.Faults.{firstFault, soundFault};
+ghost use Rattle.book.specs.Opening.{OpensAs};
 
-// The first fault of two tests: the second's where the first passed.
-pub fn and_then(test: Verdict, next: Verdict) -> Verdict
-    ensures { λ r. ⌜ r ≡ andThen test next ⌝ }
-{
-    match test {
-        Verdict::Passed => next,
-        Verdict::Refused(number, place) => Verdict::Refused(number, place),
-    }
+// What a book says before its rows: the first fault of it, the parameters, and how many rows follow.
+pub struct Opening {
+    pub fault: Verdict,
+    pub parameters: Parameters,
+    pub rows: u32,
 }
 
-// The first fault before the rows of a book that is to be cleared and whose length holds: 2, 3, then 4, then 5.
-pub fn stated_fault(book: &[u8]) -> Verdict
+// What a book whose length holds says before its rows, with the first fault where it is to be cleared: 2, 3, then 4, then 5.
+pub fn opened(book: &[u8]) -> Opening
     requires { ⌜ lengthFault (now book) ≡ Passed ⌝ }
-    ensures { λ r. ⌜ r ≡ statedFault (now (book .entry)) ⌝ }
+    ensures { λ r. ⌜ OpensAs (now (book .entry)) r ⌝ }
 {
-    if let Verdict::Refused(number, place) = blocks_fault(book) {
-        return Verdict::Refused(number, place);
-    }
     let head = &book[0..SIZE];
-    let missing = missing_in(head);
-    let range = parameter_fault(parameters_in(head));
-    and_then(missing, range)
+    let parameters = parameters_in(head);
+    let tested = and_then(missing_in(head), parameter_fault(parameters));
+    Opening {
+        fault: and_then(blocks_fault(book), tested),
+        parameters,
+        rows: offer_count(book),
+    }
 }
 
 // The first fault of a book that is to be cleared: 1, 2, 3, then 4, then 5, then the rows' 6, 7, 8.
@@ -47,10 +47,12 @@ pub fn verdict(book: &[u8]) -> Verdict
     if let Verdict::Refused(number, place) = lengths(book) {
         return Verdict::Refused(number, place);
     }
-    if let Verdict::Refused(number, place) = stated_fault(book) {
+    let head = opened(book);
+    let fault = head.fault;
+    if let Verdict::Refused(number, place) = fault {
         return Verdict::Refused(number, place);
     }
-    rows::rows_fault(book, offer_count(book), true)
+    rows::rows_fault(book, head.rows, true)
 }
 
 // The first fault by which a book is not sound: 1, 2, 3, then 5, 7 and 8 on what is given.

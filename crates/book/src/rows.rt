@@ -1,4 +1,4 @@
-// The rows of a book: read once into columns, with their values' faults and a repeated resource among those before.
+// The rows of a section: read once into columns, with their values' faults and a repeated resource among those before.
 use layout::reader::row_bytes;
 use limits::offers::offer_fault;
 use limits::repeats::with_repeats;
@@ -9,34 +9,38 @@ use values::place::offer_in;
 ghost use mathlib.Core.Path.{_≡_};
 ghost use Rattle.columns.specs.Columns.{columnsOf, Room};
 ghost use Rattle.limits.specs.Offers.{rowsFault};
-ghost use Rattle.layout.specs.Read.{bookOffer, Inside};
+ghost use Rattle.values.specs.Contents.{offerAt};
+ghost use Rattle.layout.specs.Read.{rowOffers, Inside};
 ghost use Rattle.book.specs.Rows.{ValuesRead, RowsRead};
 
-// The first fault by 6 or 7 among n rows, with the columns of the rows up to it.
+// The first fault by 6 or 7 among n rows that stand from the block `first` on, with the columns of the rows up to it.
 fn values_fault(
     book: &[u8],
+    first: usize,
     n: u32,
     needed: bool,
     prices: &mut [u32],
     quantities: &mut [u32],
     leasts: &mut [u32],
     resources: &mut [u32],
+    stamps: &mut [u64],
 ) -> Verdict
-    requires { ⌜ Inside (now book) 1 n × Room n (columnsOf (now prices) (now quantities) (now leasts) (now resources)) ⌝ }
-    ensures { λ r. ⌜ ValuesRead needed (now (book .entry)) n r
-        (columnsOf (now (prices .entry)) (now (quantities .entry)) (now (leasts .entry)) (now (resources .entry)))
-        (columnsOf (now (prices .exit)) (now (quantities .exit)) (now (leasts .exit)) (now (resources .exit))) ⌝ }
+    requires { ⌜ Inside (now book) first n × Room n (columnsOf (now prices) (now quantities) (now leasts) (now resources) (now stamps)) ⌝ }
+    ensures { λ r. ⌜ ValuesRead needed (rowOffers (now (book .entry)) first n) n r
+        (columnsOf (now (prices .entry)) (now (quantities .entry)) (now (leasts .entry)) (now (resources .entry)) (now (stamps .entry)))
+        (columnsOf (now (prices .exit)) (now (quantities .exit)) (now (leasts .exit)) (now (resources .exit)) (now (stamps .exit))) ⌝ }
 {
     let mut row: u32 = 0;
     while row < n {
         let at = row as usize;
-        let o = offer_in(row_bytes(book, 1, at));
+        let o = offer_in(row_bytes(book, first, at));
         let price = o.price;
         let block = o.block;
         prices[at] = number_held(price);
         quantities[at] = o.quantity;
         leasts[at] = least_of(block);
         resources[at] = o.resource;
+        stamps[at] = o.stamp;
         if let Verdict::Refused(number, place) = offer_fault(needed, o, row) {
             return Verdict::Refused(number, place);
         }
@@ -45,42 +49,49 @@ fn values_fault(
     Verdict::Passed
 }
 
-// The first fault of n rows, each tested for 6, where prices are needed, for 7 and for 8. Where there is none, all n stand in
-// the columns.
+// The first fault of n rows that stand from the block `first` on, each tested for 6, where prices are needed, for 7 and for 8.
+// The rows stand in the columns: all where there is no fault by 6 or 7, and else those up to the first that has one.
 pub fn read_rows(
     book: &[u8],
+    first: usize,
     n: u32,
     needed: bool,
     prices: &mut [u32],
     quantities: &mut [u32],
     leasts: &mut [u32],
     resources: &mut [u32],
+    stamps: &mut [u64],
 ) -> Verdict
-    requires { ⌜ Inside (now book) 1 n × Room n (columnsOf (now prices) (now quantities) (now leasts) (now resources)) ⌝ }
-    ensures { λ r. ⌜ RowsRead needed (now (book .entry)) n r
-        (columnsOf (now (prices .entry)) (now (quantities .entry)) (now (leasts .entry)) (now (resources .entry)))
-        (columnsOf (now (prices .exit)) (now (quantities .exit)) (now (leasts .exit)) (now (resources .exit))) ⌝ }
+    requires { ⌜ Inside (now book) first n × Room n (columnsOf (now prices) (now quantities) (now leasts) (now resources) (now stamps)) ⌝ }
+    ensures { λ r. ⌜ RowsRead needed (rowOffers (now (book .entry)) first n) r
+        (columnsOf (now (prices .entry)) (now (quantities .entry)) (now (leasts .entry)) (now (resources .entry)) (now (stamps .entry)))
+        (columnsOf (now (prices .exit)) (now (quantities .exit)) (now (leasts .exit)) (now (resources .exit)) (now (stamps .exit))) ⌝ }
 {
-    let values = values_fault(book, n, needed, prices, quantities, leasts, resources);
-    with_repeats(values, resources, n)
+    let found = values_fault(
+        book, first, n, needed, prices, quantities, leasts, resources, stamps,
+    );
+    with_repeats(found, resources, n)
 }
 
-// The first fault of n rows alone.
+// The first fault of the n offers of a book alone.
 pub(crate) fn rows_fault(book: &[u8], n: u32, needed: bool) -> Verdict
     requires { ⌜ Inside (now book) 1 n ⌝ }
-    ensures { λ r. ⌜ r ≡ rowsFault needed (bookOffer (now (book .entry))) n ⌝ }
+    ensures { λ r. ⌜ r ≡ rowsFault needed (offerAt (rowOffers (now (book .entry)) 1 n)) n ⌝ }
 {
     let mut prices = [0u32; 600];
     let mut quantities = [0u32; 600];
     let mut leasts = [0u32; 600];
     let mut resources = [0u32; 600];
+    let mut stamps = [0u64; 600];
     read_rows(
         book,
+        1,
         n,
         needed,
         &mut prices,
         &mut quantities,
         &mut leasts,
         &mut resources,
+        &mut stamps,
     )
 }

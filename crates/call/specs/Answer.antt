@@ -5,15 +5,12 @@ use mathlib.Core.Path.{_≡_}
 use mathlib.Core.List.{List}
 use lib.ListN.{length}
 use lib.Dec.{leb}
-use Rattle.laws.specs.Filled.{filled}
 use Rattle.values.specs.Refusals.{unless, andThen, shortBuffer}
 use Rattle.values.specs.declared.Verdict.{Verdict}
 use Rattle.values.specs.declared.Verdict.the-variants.{Passed, Refused}
-use Rattle.layout.specs.Form.{offerCount}
-use Rattle.layout.specs.Read.{bookParameters}
+use Rattle.layout.specs.Read.{contentsOf}
 use Rattle.book.specs.Faults.{firstFault}
-use Rattle.sale.specs.Auction.{rowCleared, rowCommitted}
-use Rattle.sale.specs.Payment.{clearingOf}
+use Rattle.sale.specs.Payment.{clearingOf, clearedList, committedList}
 use Rattle.sale.specs.declared.Clearing.{Clearing}
 use Rattle.call.specs.declared.Answer.{Answer}
 use Rattle.call.specs.declared.Answer.the-variants.{Cleared as Answer·Cleared, Refused as Answer·Refused}
@@ -25,7 +22,7 @@ bufferFault offers cleared committed =
 
 -- the first fault of a call: the book's own, then the buffers'
 unfoldable pub callFault : List ℕ → ℕ → ℕ → Verdict
-callFault b cleared committed = andThen (firstFault b) (bufferFault (offerCount b) cleared committed)
+callFault b cleared committed = andThen (firstFault b) (bufferFault (length (contentsOf b .offers)) cleared committed)
 
 -- a refusal's number and place, or the clearing
 abbrev pub answerBy : Verdict → Clearing → Answer
@@ -34,7 +31,7 @@ answerBy (Refused number place) clearing = Answer·Refused number place
 
 -- the answer where no buffer is asked for: the book's own first fault, or its clearing
 abbrev pub answerOf : List ℕ → Answer
-answerOf b = answerBy (firstFault b) (clearingOf b (bookParameters b))
+answerOf b = answerBy (firstFault b) (clearingOf (contentsOf b))
 
 -- a refusal leaves a buffer as it was
 abbrev pub bufferBy : Verdict → List ℕ → List ℕ → List ℕ
@@ -44,12 +41,8 @@ bufferBy (Refused number place) before after = before
 -- The outcome of a call: the answer, and both buffers as it leaves them. Each row has its cleared and its committed tenths;
 -- entries past the last row are not touched.
 pub record Outcome (b cleared committed : List ℕ) (answer : Answer) (cleared′ committed′ : List ℕ) : Type 0 where
-  pub answered : answer ≡ answerBy (callFault b (length cleared) (length committed)) (clearingOf b (bookParameters b))
+  pub answered : answer ≡ answerBy (callFault b (length cleared) (length committed)) (clearingOf (contentsOf b))
   pub cleared-holds :
-      cleared′
-      ≡ bufferBy (callFault b (length cleared) (length committed)) cleared
-      (filled (rowCleared b (bookParameters b)) (offerCount b) cleared)
+      cleared′ ≡ bufferBy (callFault b (length cleared) (length committed)) cleared (clearedList (contentsOf b) cleared)
   pub committed-holds :
-      committed′
-      ≡ bufferBy (callFault b (length cleared) (length committed)) committed
-      (filled (rowCommitted b (bookParameters b)) (offerCount b) committed)
+      committed′ ≡ bufferBy (callFault b (length cleared) (length committed)) committed (committedList (contentsOf b) committed)

@@ -1,9 +1,9 @@
 -- Offers that stand in columns, read at every row.
 --
 -- In order: a column holds each row's value and is long enough; of all offers it is the value as a function of the row, and so
--- the columns are the offers of the auction.
+-- the columns are the offers of the auction; columns of zeros have room, and once all offers are read they are listed.
 -- Assumes nothing.
-use mathlib.Core.Path.{_≡_, refl, ap, sym, _∙_, fun-ext}
+use mathlib.Core.Path.{_≡_, refl, ap, sym, subst, _∙_, fun-ext}
 use mathlib.Core.Bool.{cond}
 use mathlib.Core.List.{List}
 use Prim.Native.Nat.{ℕ, _≤_, _<_}
@@ -20,7 +20,7 @@ use Rattle.values.specs.Values.{held}
 use Rattle.values.specs.Contents.{noOffer, offerAt}
 use Rattle.values.specs.declared.place.Offer.{Offer}
 use Rattle.columns.specs.Column.{rowPrice, rowQuantity, rowStamp, rowResource, Column, rowsOf}
-use Rattle.columns.specs.Columns.{Columns, Listed}
+use Rattle.columns.specs.Columns.{Columns, empty, Blank, Room, ColumnsRead, Listed}
 
 module _ (value : ℕ → ℕ) {n m : ℕ} {after : List ℕ} (column : Column value n (zeros m) after) (enough : n ≤ m) where
   pub column-long : n ≤ length after
@@ -62,4 +62,23 @@ listed-offers offers v l =
       quantity = column-all offers (λ o. o .quantity) refl (l .read .quantity) (l .enough) i;
       stamp = column-all offers (λ o. o .stamp) refl (l .read .stamp) (l .enough) i;
       resource = column-all offers (λ o. o .resource) refl (l .read .resource) (l .enough) i;
+    }
+
+-- columns of zeros have a place for every row
+zeros-room : (n m : ℕ) → n ≤ m → Room n (empty m)
+zeros-room n m l =
+    let long : n ≤ length (zeros m) = omega (arith, length-zeros m) in
+    record { price = long; quantity = long; least = long; resource = long; stamp = long }
+
+pub blank-room : (n : ℕ) (v : Columns) → Blank n v → Room n v
+blank-room n v b = subst (Room n) (sym (b .zeros)) (zeros-room n (b .room) (b .enough))
+
+-- all offers read into columns of zeros are listed
+pub blank-listed : (offers : List Offer) (n : ℕ) (before after : Columns) → n ≡ length offers → Blank n before
+    → ColumnsRead offers (length offers) before after → Listed offers after
+blank-listed offers n before after e b read =
+    record {
+      room = b .room;
+      enough = omega (arith, b .enough);
+      read = subst (λ (v : Columns). ColumnsRead offers (length offers) v after) (b .zeros) read;
     }

@@ -31,6 +31,12 @@ pub record Room (n : ℕ) (lists : Columns) : Type 0 where
   pub resource : n ≤ length (lists .resources)
   pub stamp : n ≤ length (lists .stamps)
 
+-- columns of zeros with a place for every one of n rows
+pub record Blank (n : ℕ) (lists : Columns) : Type 0 where
+  pub room : ℕ
+  pub enough : n ≤ room
+  pub zeros : lists ≡ empty room
+
 -- the first n offers stand in the lists, in order, and nothing else in them is touched
 pub record ColumnsRead (offers : List Offer) (n : ℕ) (before after : Columns) : Type 0 where
   -- the price that each row holds

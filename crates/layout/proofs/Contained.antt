@@ -1,25 +1,41 @@
--- What the decoder makes of a book: its parameters, how many offers it has, and which.
+-- What the decoder makes of a book.
+--
+-- In order: how many offers are made of rows, and which stands at a row; the parameters of a book, how many offers it has, and
+-- that they are those of its rows.
 -- Assumes nothing.
-use mathlib.Core.Path.{_≡_, refl}
+use mathlib.Core.Path.{_≡_, refl, sym, _∙_}
 use mathlib.Core.List.{List}
 use Prim.Native.Nat.{ℕ, _<_}
 use lib.ListN.{length}
 use Rattle.laws.proofs.Listing.{length-listOf, getD-listOf}
 use Rattle.values.specs.Head.{parametersOf}
+use Rattle.values.specs.Place.{offerOf}
 use Rattle.values.specs.Contents.{noOffer, offerAt}
-use Rattle.layout.specs.Blocks.{blockOf}
+use Rattle.values.specs.declared.place.Offer.{Offer}
+use Rattle.layout.specs.Blocks.{blockOf, rowBytes}
 use Rattle.layout.specs.Form.{offerCount}
-use Rattle.layout.specs.Read.{bookOffer, contentsOf}
+use Rattle.layout.specs.Read.{rowOffers, contentsOf}
+
+module _ (b : List ℕ) (first n : ℕ) where
+  pub length-rowOffers : length (rowOffers b first n) ≡ n
+  unfolding rowOffers
+  length-rowOffers = length-listOf (λ row. offerOf (rowBytes b first row)) n
+
+  -- what a row's own bytes hold is the row's offer
+  pub offer-of-row : (row : ℕ) {part : List ℕ} {o : Offer} → row < n → part ≡ rowBytes b first row → o ≡ offerOf part
+      → o ≡ offerAt (rowOffers b first n) row
+  unfolding rowOffers
+  offer-of-row row l p e = rw (e, p) (sym (getD-listOf (λ r. offerOf (rowBytes b first r)) n row noOffer l))
 
 module _ (b : List ℕ) where
   pub contents-parameters : parametersOf (blockOf b 0) ≡ contentsOf b .parameters
   unfolding contentsOf
   contents-parameters = refl
 
-  pub contents-count : length (contentsOf b .offers) ≡ offerCount b
+  pub contents-offers : rowOffers b 1 (offerCount b) ≡ contentsOf b .offers
   unfolding contentsOf
-  contents-count = length-listOf (bookOffer b) (offerCount b)
+  contents-offers = refl
 
-  pub contents-offer : (row : ℕ) → row < offerCount b → offerAt (contentsOf b .offers) row ≡ bookOffer b row
+  pub contents-count : offerCount b ≡ length (contentsOf b .offers)
   unfolding contentsOf
-  contents-offer row l = getD-listOf (bookOffer b) (offerCount b) row noOffer l
+  contents-count = sym (length-rowOffers b 1 (offerCount b))

@@ -1,4 +1,6 @@
 -- The decoder: what a book of bytes says.
+--
+-- In order: the offers of rows that stand from a given block on; what a book says; rows that lie within it.
 -- Assumes nothing.
 use Prim.Native.Nat.{ℕ, _+_, _*_, _/_, _≤_, _<_}
 use mathlib.Core.List.{List}
@@ -9,15 +11,17 @@ use Rattle.values.specs.Place.{offerOf}
 use Rattle.values.specs.Contents.{Contents}
 use Rattle.values.specs.declared.place.Offer.{Offer}
 use Rattle.layout.specs.Blocks.{blockOf, rowBytes}
-use Rattle.layout.specs.Form.{offerCount}
+use Rattle.layout.specs.Form.{offersSection}
 
--- the offer of a row of a book; the offers stand from block 1 on
-unfoldable pub bookOffer : List ℕ → ℕ → Offer
-bookOffer b row = offerOf (rowBytes b 1 row)
+-- the offers of n rows, of which the first stands in the block `first`
+unfoldable pub rowOffers : List ℕ → ℕ → ℕ → List Offer
+rowOffers b first n = listOf (λ row. offerOf (rowBytes b first row)) n
 
--- what a book says: the parameters of block 0, and as many offers as it states, row by row
+-- what a book says: the parameters of block 0, and the offers of their section, row by row
 unfoldable pub contentsOf : List ℕ → Contents
-contentsOf b = record { parameters = parametersOf (blockOf b 0); offers = listOf (bookOffer b) (offerCount b) }
+contentsOf b =
+    let section = offersSection b in
+    record { parameters = parametersOf (blockOf b 0); offers = rowOffers b (section .first) (section .rows) }
 
 -- there are at most 600 rows, and the block of each lies within the book, where those of their section start at `first`
 pub record Inside (b : List ℕ) (first n : ℕ) : Type 0 where

@@ -5,12 +5,12 @@ use values::Verdict;
 use values::head::Parameters;
 ghost use mathlib.Core.Path.{_≡_};
 ghost use Rattle.values.specs.Refusals.{andThen};
-ghost use Rattle.limits.specs.Parameters.{needed};
+ghost use Rattle.limits.specs.Parameters.{fieldFault};
 ghost use Rattle.limits.specs.Given.{parametersFault};
 
 // 4 at a field whose value is missing, and else what comes next.
 fn needed(field: u32, v: Value, next: Verdict) -> Verdict
-    ensures { λ r. ⌜ r ≡ andThen (needed field v) next ⌝ }
+    ensures { λ r. ⌜ r ≡ andThen (fieldFault field v) next ⌝ }
 {
     match v {
         Value::Given(_) => next,

@@ -10,6 +10,7 @@ ghost use lib.ListN.{length};
 ghost use lib.Dec.{eqb};
 ghost use Rattle.block.specs.Bytes.{u32At};
 ghost use Rattle.values.specs.Values.{valueOf, held, leastOf};
+ghost use Rattle.values.specs.Refusals.{andThen};
 
 // A value that the book can leave out. What is missing is no number.
 pub enum Value {
@@ -21,6 +22,16 @@ pub enum Value {
 pub enum Verdict {
     Passed,
     Refused(u32, u32),
+}
+
+// The first fault of two tests: the second's where the first passed.
+pub fn and_then(test: Verdict, next: Verdict) -> Verdict
+    ensures { λ r. ⌜ r ≡ andThen test next ⌝ }
+{
+    match test {
+        Verdict::Passed => next,
+        Verdict::Refused(number, place) => Verdict::Refused(number, place),
+    }
 }
 
 // The value at a place of a part, given where the bit of this weight is set in the marks. The bytes are read in either case,

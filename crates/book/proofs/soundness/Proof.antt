@@ -1,18 +1,16 @@
 -- `soundness` is the first fault by which a book is not sound: as `verdict`, and without 4 and 6.
 -- Assumes nothing.
 use mathlib.Core.Path.{_≡_, sym, ap, _∙_}
-use mathlib.Core.Bool.{false}
 use native.Mathlib.Omega.{arith}
 use borrow.Author.Needs.{needs}
 use Rattle.values.specs.declared.Verdict.the-variants.{Passed}
 use Rattle.values.proofs.Firsts.{andThen-next, andThen-refused}
 use Rattle.limits.specs.Parameters.{rangeFault}
-use Rattle.limits.specs.Offers.{rowsFault}
 use Rattle.layout.specs.Blocks.{blockOf}
 use Rattle.layout.specs.Form.{formFault}
-use Rattle.layout.specs.Read.{bookParameters}
+use Rattle.layout.specs.Read.{contentsOf}
 use Rattle.layout.proofs.Passing.{form-passed-length}
-use Rattle.book.proofs.Stages.{sound-form-refused, sound-formed, form-inside}
+use Rattle.book.proofs.Stages.{sound-form-refused, sound-formed, form-inside, rows-own}
 use Rattle.book.proofs.soundness.Statement.{statement}
 use Rattle.book.proofs.soundness.Tie as tie
 
@@ -50,8 +48,8 @@ parameter-fault-requires c κs = search needs
 -- what the calls ensure, of the book's parameters
 range-told : (c : tie.After-parameter-fault) →
     c .parameter-fault .result
-    ≡ rangeFault (bookParameters (c .before .before .before .before .before .before .before .args .book .now))
-unfolding bookParameters blockOf
+    ≡ rangeFault (contentsOf (c .before .before .before .before .before .before .before .args .book .now) .parameters)
+unfolding contentsOf blockOf
 range-told c = c .parameter-fault .ensures ∙ ap rangeFault (c .before .parameters-in .ensures)
 
 enum-known-number-2 : tie.Need-enum-known-number-2
@@ -78,7 +76,7 @@ returns-3 : tie.Need-returns-3
 returns-3 c =
     let tested = c .before .before .before .before in
     c .rows-fault .ensures
-    ∙ ap (rowsFault false _) (c .before .offer-count .ensures .0)
+    ∙ rows-own _ _ _ (c .before .offer-count .ensures .0)
     ∙ sym
     (sound-formed _ (formed (tested .before .before .before))
     ∙ andThen-next _ _ (sym (range-told tested) ∙ c .before .before .enum-told2 .given .1))

@@ -1,15 +1,14 @@
 -- `verdict` is the first fault of a book: the rows are tested only where what comes before them passed.
 -- Assumes nothing.
-use mathlib.Core.Path.{_≡_, sym, ap, _∙_}
-use mathlib.Core.Bool.{true}
+use mathlib.Core.Path.{_≡_, sym, subst, _∙_}
 use borrow.Author.Needs.{needs}
 use Rattle.values.specs.declared.Verdict.the-variants.{Passed}
 use Rattle.values.proofs.Firsts.{andThen-next, andThen-refused}
-use Rattle.limits.specs.Offers.{rowsFault}
-use Rattle.layout.specs.Form.{formFault}
-use Rattle.layout.proofs.Passing.{form-passed-length}
-use Rattle.book.specs.Faults.{statedFault}
-use Rattle.book.proofs.Stages.{first-stated, stated-length, stated-form, form-inside}
+use Rattle.layout.specs.Form.{offerCount}
+use Rattle.layout.specs.Read.{Inside}
+use Rattle.layout.proofs.Contained.{contents-count}
+use Rattle.book.specs.Opening.{beforeRows}
+use Rattle.book.proofs.Stages.{first-before, before-length, before-form, form-inside, rows-own}
 use Rattle.book.proofs.verdict.Statement.{statement}
 use Rattle.book.proofs.verdict.Tie as tie
 
@@ -22,43 +21,44 @@ enum-known-number c = search needs
 returns : tie.Need-returns
 returns c =
     let refused = sym (c .before .before .before .lengths .ensures) ∙ c .before .number .given .1 in
-    sym (first-stated _ ∙ andThen-refused _ _ _ _ (stated-length _ refused))
+    sym (first-before _ ∙ andThen-refused _ _ _ _ (before-length _ refused))
 
 enum-told : tie.Need-enum-told
 enum-told c = search needs
 
-stated-fault-requires : tie.Need-stated-fault-requires
-stated-fault-requires c κs = sym (c .before .before .lengths .ensures) ∙ c .enum-told .given .1
+opened-requires : tie.Need-opened-requires
+opened-requires c κs = sym (c .before .before .lengths .ensures) ∙ c .enum-told .given .1
 
-enum-known-number-2 : tie.Need-enum-known-number-2
-enum-known-number-2 c = search needs
+enum-known-fault : tie.Need-enum-known-fault
+enum-known-fault c = search needs
 
 returns-2 : tie.Need-returns-2
 returns-2 c =
-    let refused = sym (c .before .before .before .stated-fault .ensures) ∙ c .before .number2 .given .1 in
-    sym (first-stated _ ∙ andThen-refused _ _ _ _ refused)
+    let refused = sym (c .before .before .before .opened .ensures .fault) ∙ c .before .fault .given .1 in
+    sym (first-before _ ∙ andThen-refused _ _ _ _ refused)
 
 enum-told-2 : tie.Need-enum-told-2
 enum-told-2 c = search needs
 
 -- past the tests what comes before the rows passed
-stated : (c : tie.After-enum-told2) → statedFault (c .before .before .before .before .before .before .before .args .book .now) ≡ Passed
-stated c = sym (c .before .before .stated-fault .ensures) ∙ c .enum-told2 .given .1
+before : (c : tie.After-enum-told2) → beforeRows (c .before .before .before .before .before .before .before .args .book .now) ≡ Passed
+before c = sym (c .before .before .opened .ensures .fault) ∙ c .enum-told2 .given .1
 
-formed : (c : tie.After-enum-told2) → formFault (c .before .before .before .before .before .before .before .args .book .now) ≡ Passed
-formed c = stated-form _ (stated c)
-
-offer-count-requires : tie.Need-offer-count-requires
-offer-count-requires c κs = form-passed-length _ (formed c)
+-- and the rows are as many as block 0 states
+rows-count : (c : tie.After-enum-told2)
+    → c .before .before .opened .result .rows ≡ offerCount (c .before .before .before .before .before .before .before .args .book .now)
+rows-count c = c .before .before .opened .ensures .rows ∙ sym (contents-count _)
 
 rows-fault-requires : tie.Need-rows-fault-requires
-rows-fault-requires c κs = rw (c .offer-count .ensures .0) (form-inside _ (formed (c .before)))
+rows-fault-requires c κs =
+    let b = c .before .before .before .before .before .before .before .args .book .now in
+    subst (Inside b 1) (sym (rows-count c)) (form-inside b (before-form b (before c)))
 
 returns-3 : tie.Need-returns-3
 returns-3 c =
     c .rows-fault .ensures
-    ∙ ap (rowsFault true _) (c .before .offer-count .ensures .0)
-    ∙ sym (first-stated _ ∙ andThen-next _ _ (stated (c .before .before)))
+    ∙ rows-own _ _ _ (rows-count (c .before))
+    ∙ sym (first-before _ ∙ andThen-next _ _ (before (c .before)))
 
 pub verdict-spec : {M : Type 1} → statement M
 verdict-spec =
@@ -68,10 +68,9 @@ verdict-spec =
     enum-known-number
     returns
     enum-told
-    stated-fault-requires
-    enum-known-number-2
+    opened-requires
+    enum-known-fault
     returns-2
     enum-told-2
-    offer-count-requires
     rows-fault-requires
     returns-3)

@@ -1,17 +1,22 @@
 -- `read_rows` is the rows' first fault: the first by 6 or 7, unless a resource number repeats before it.
 -- Assumes nothing.
 use borrow.Author.Needs.{needs}
-use Rattle.book.proofs.Values.{values-within, values-rows}
+use Rattle.layout.proofs.Contained.{length-rowOffers}
+use Rattle.book.proofs.Values.{values-within, values-rows-by}
 use Rattle.book.proofs.rows.read_rows.Statement.{statement}
 use Rattle.book.proofs.rows.read_rows.Tie as tie
 
 values-fault-requires : tie.Need-values-fault-requires
 values-fault-requires c κs = search needs
 
+-- the function's entry, from where the values are tested
+abbrev entry : tie.After-values-fault → tie.Start
+entry c = c .before .before .before .before .before .before .before .before .before .before .before .before
+
 with-repeats-requires : tie.Need-with-repeats-requires
 with-repeats-requires c κs =
-    values-within _ _ _ (c .before .before .before .before .before .before .before .before .before .values-fault .ensures)
-    (c .before .before .before .before .before .before .before .before .before .before .before .before .before .before .before .before .before .before .before .pre .1 .resource)
+    let found = c .before .before .before .before .before .before .before .before .before .before .before in
+    values-within _ _ _ (found .values-fault .ensures) (entry found .pre .1 .resource)
 
 same-length : tie.Need-same-length
 same-length c = search needs
@@ -25,11 +30,14 @@ same-length-3 c = search needs
 same-length-4 : tie.Need-same-length-4
 same-length-4 c = search needs
 
+same-length-5 : tie.Need-same-length-5
+same-length-5 c = search needs
+
 returns : tie.Need-returns
 returns c =
-    values-rows _ _ _ (c .before .before .before .before .before .before .before .before .before .before .values-fault .ensures)
-    (c .before .before .before .before .before .before .before .before .before .before .before .before .before .before .before .before .before .before .before .before .pre .1 .resource)
-    _ (c .with-repeats .ensures)
+    let found = c .before .before .before .before .before .before .before .before .before .before .before .before in
+    values-rows-by _ _ _ (length-rowOffers _ _ _) (found .values-fault .ensures) (entry found .pre .1 .resource) _
+    (c .with-repeats .ensures)
 
 pub read-rows-spec : {M : Type 1} → statement M
 read-rows-spec =
@@ -41,4 +49,5 @@ read-rows-spec =
     same-length-2
     same-length-3
     same-length-4
+    same-length-5
     returns)

@@ -8,22 +8,23 @@ use borrow.Author.Needs.{needs}
 use Rattle.laws.proofs.Filling.{length-filling, in-filling}
 use Rattle.values.specs.declared.Verdict.the-variants.{Passed}
 use Rattle.limits.specs.Offers.{offerFault}
-use Rattle.layout.specs.Read.{bookOffer}
+use Rattle.values.specs.Contents.{offerAt}
+use Rattle.layout.specs.Read.{rowOffers}
+use Rattle.layout.proofs.Contained.{offer-of-row}
 use Rattle.columns.specs.Columns.{columnsOf}
-use Rattle.columns.proofs.Turns.{offer-of-row}
 use Rattle.book.specs.Rows.{ValuesRead}
-use Rattle.book.proofs.Values.{values-none, values-more, values-refused}
+use Rattle.book.proofs.Values.{values-none, values-more, values-refused, values-end}
 use Rattle.book.proofs.rows.values_fault.Statement.{statement}
 use Rattle.book.proofs.rows.values_fault.Tie as tie
 
 abbrev Inv-loop : tie.InvT-loop
-Inv-loop book n needed prices₀ quantities₀ leasts₀ resources₀ row₀ prices quantities leasts resources row =
+Inv-loop book first n needed prices₀ quantities₀ leasts₀ resources₀ stamps₀ row₀ prices quantities leasts resources stamps row =
     (row ≤ n)
-    × ValuesRead needed book row Passed (columnsOf prices₀ quantities₀ leasts₀ resources₀)
-    (columnsOf prices quantities leasts resources)
+    × ValuesRead needed (rowOffers book first n) row Passed (columnsOf prices₀ quantities₀ leasts₀ resources₀ stamps₀)
+    (columnsOf prices quantities leasts resources stamps)
 
 abbrev μ-loop : tie.MeasureT-loop
-μ-loop book n needed prices₀ quantities₀ leasts₀ resources₀ row₀ prices quantities leasts resources row = n - row
+μ-loop book first n needed prices₀ quantities₀ leasts₀ resources₀ stamps₀ row₀ prices quantities leasts resources stamps row = n - row
 
 loop-holds : tie.Need-loop-holds Inv-loop μ-loop
 loop-holds c = (search needs, values-none _ _ _)
@@ -32,7 +33,7 @@ cast-at : tie.Need-cast-at Inv-loop μ-loop
 cast-at c = search needs
 
 row-bytes-requires : tie.Need-row-bytes-requires Inv-loop μ-loop
-row-bytes-requires c κs = c .before .before .before .before .before .before .before .pre .0 .within (c .before .loop .row) (c .loop-test .taken)
+row-bytes-requires c κs = c .before .before .before .before .before .before .before .before .pre .0 .within (c .before .loop .row) (c .loop-test .taken)
 
 offer-in-requires : tie.Need-offer-in-requires Inv-loop μ-loop
 offer-in-requires c κs = search needs
@@ -40,8 +41,10 @@ offer-in-requires c κs = search needs
 -- the offer that was read is the book's own
 as-offer : (c : tie.After-offer-in Inv-loop μ-loop) →
     let at = c .before .before .before in
-    c .offer-in .result ≡ bookOffer (at .before .before .before .before .before .before .args .book .now) (at .loop .row)
-as-offer c = offer-of-row _ _ (c .before .row-bytes .ensures .0) (c .offer-in .ensures)
+    let a = at .before .before .before .before .before .before .before .args in
+    c .offer-in .result ≡ offerAt (rowOffers (a .book .now) (a .first) (a .n)) (at .loop .row)
+as-offer c =
+    offer-of-row _ _ _ _ (c .before .before .loop-test .taken) (c .before .row-bytes .ensures .0) (c .offer-in .ensures)
 
 number-held-requires : tie.Need-number-held-requires Inv-loop μ-loop
 number-held-requires c κs = search needs
@@ -73,15 +76,21 @@ mul-resources c = search needs
 slice-write-resources : tie.Need-slice-write-resources Inv-loop μ-loop
 slice-write-resources c = in-filling _ _ _ (c .before .before .before .before .before .loop .inv .1 .read .resource) (omega arith)
 
+mul-stamps : tie.Need-mul-stamps Inv-loop μ-loop
+mul-stamps c = search needs
+
+slice-write-stamps : tie.Need-slice-write-stamps Inv-loop μ-loop
+slice-write-stamps c = in-filling _ _ _ (c .before .before .before .before .before .loop .inv .1 .read .stamp) (omega arith)
+
 offer-fault-requires : tie.Need-offer-fault-requires Inv-loop μ-loop
 offer-fault-requires c κs = search needs
 
 -- and its fault is that of the definition
 as-fault : (c : tie.After-offer-fault Inv-loop μ-loop) →
     let at = c .before .before .before .before .before .before in
-    let start = at .before .before .before .before .before .before in
+    let a = at .before .before .before .before .before .before .before .args in
     c .offer-fault .result
-    ≡ offerFault (start .args .needed) (bookOffer (start .args .book .now) (at .loop .row)) (at .loop .row)
+    ≡ offerFault (a .needed) (offerAt (rowOffers (a .book .now) (a .first) (a .n)) (at .loop .row)) (at .loop .row)
 as-fault c = rw (as-offer (c .before .before .before)) at (c .offer-fault .ensures)
 
 enum-known-number : tie.Need-enum-known-number Inv-loop μ-loop
@@ -109,6 +118,9 @@ same-length-3 c = length-filling _ _ _ (refused c .read .least)
 same-length-4 : tie.Need-same-length-4 Inv-loop μ-loop
 same-length-4 c = length-filling _ _ _ (refused c .read .resource)
 
+same-length-5 : tie.Need-same-length-5 Inv-loop μ-loop
+same-length-5 c = length-filling _ _ _ (refused c .read .stamp)
+
 returns : tie.Need-returns Inv-loop μ-loop
 returns = refused
 
@@ -132,23 +144,26 @@ loop-again c =
           (sym (as-fault tested) ∙ c .enum-told .given .1),
     )
 
-same-length-5 : tie.Need-same-length-5 Inv-loop μ-loop
-same-length-5 c = length-filling _ _ _ (c .before .loop .inv .1 .read .price)
-
 same-length-6 : tie.Need-same-length-6 Inv-loop μ-loop
-same-length-6 c = length-filling _ _ _ (c .before .loop .inv .1 .read .quantity)
+same-length-6 c = length-filling _ _ _ (c .before .loop .inv .1 .read .price)
 
 same-length-7 : tie.Need-same-length-7 Inv-loop μ-loop
-same-length-7 c = length-filling _ _ _ (c .before .loop .inv .1 .read .least)
+same-length-7 c = length-filling _ _ _ (c .before .loop .inv .1 .read .quantity)
 
 same-length-8 : tie.Need-same-length-8 Inv-loop μ-loop
-same-length-8 c = length-filling _ _ _ (c .before .loop .inv .1 .read .resource)
+same-length-8 c = length-filling _ _ _ (c .before .loop .inv .1 .read .least)
+
+same-length-9 : tie.Need-same-length-9 Inv-loop μ-loop
+same-length-9 c = length-filling _ _ _ (c .before .loop .inv .1 .read .resource)
+
+same-length-10 : tie.Need-same-length-10 Inv-loop μ-loop
+same-length-10 c = length-filling _ _ _ (c .before .loop .inv .1 .read .stamp)
 
 returns-2 : tie.Need-returns-2 Inv-loop μ-loop
 returns-2 c =
     let at = c .before in
-    let all : at .loop .row ≡ at .before .before .before .before .before .before .args .n = omega arith in
-    rw all at (at .loop .inv .1)
+    let all : at .loop .row ≡ at .before .before .before .before .before .before .before .args .n = omega arith in
+    values-end (at .loop .inv .1) all
 
 pub values-fault-spec : {M : Type 1} → statement M
 values-fault-spec =
@@ -170,19 +185,23 @@ values-fault-spec =
     slice-write-leasts
     mul-resources
     slice-write-resources
+    mul-stamps
+    slice-write-stamps
     offer-fault-requires
     enum-known-number
     same-length
     same-length-2
     same-length-3
     same-length-4
+    same-length-5
     returns
     enum-told
     add-row
     loop-less
     loop-again
-    same-length-5
     same-length-6
     same-length-7
     same-length-8
+    same-length-9
+    same-length-10
     returns-2)

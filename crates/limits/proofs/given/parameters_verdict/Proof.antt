@@ -6,7 +6,7 @@ use Rattle.values.specs.Refusals.{andThen}
 use Rattle.values.specs.declared.Verdict.{Verdict}
 use Rattle.values.specs.declared.Verdict.the-variants.{Passed, Refused}
 use Rattle.values.specs.declared.head.Parameters.{Parameters}
-use Rattle.limits.specs.Parameters.{needed, missingFault, rangeFault}
+use Rattle.limits.specs.Parameters.{fieldFault, missingFault, rangeFault}
 use Rattle.limits.specs.Given.{parametersFault}
 use Rattle.limits.proofs.given.parameters_verdict.Statement.{statement}
 use Rattle.limits.proofs.given.parameters_verdict.Tie as tie
@@ -18,7 +18,7 @@ andThen-assoc (Refused number place) v w = refl
 
 -- the values one by one, and then the ranges
 in-turn : (p : Parameters)
-    → andThen (needed 2 (p .cost)) (andThen (needed 3 (p .offset)) (andThen (needed 4 (p .outage)) (andThen (needed 5 (p .requirement)) (rangeFault p))))
+    → andThen (fieldFault 2 (p .cost)) (andThen (fieldFault 3 (p .offset)) (andThen (fieldFault 4 (p .outage)) (andThen (fieldFault 5 (p .requirement)) (rangeFault p))))
     ≡ parametersFault p
 unfolding parametersFault missingFault
 in-turn p = simp andThen-assoc

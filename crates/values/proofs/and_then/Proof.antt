@@ -2,9 +2,9 @@
 -- Assumes nothing.
 use mathlib.Core.Path.{sym}
 use borrow.Author.Needs.{needs}
 use Rattle.values.proofs.Firsts.{andThen-refused}
-use Rattle.book.proofs.and_then.Statement.{statement}
-use Rattle.book.proofs.and_then.Tie as tie
+use Rattle.values.proofs.and_then.Statement.{statement}
+use Rattle.values.proofs.and_then.Tie as tie
 
 enum-told : tie.Need-enum-told
 enum-told c = search needs
