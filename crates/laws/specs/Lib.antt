@@ -2,3 +2,4 @@ pub mod Sum
 pub mod Nearest
 pub mod Largest
 pub mod Filled
+pub mod Orders
