@@ -8,7 +8,7 @@ ghost use mathlib.Core.Path.{_≡_};
 ghost use mathlib.Core.Bool.{true};
 ghost use Prim.Native.Nat.{_≤_, _<_};
 ghost use Rattle.curve.specs.Shape.{Shaped};
-ghost use Rattle.curve.specs.Price.{tenthPrice};
+ghost use Rattle.curve.specs.Price.{tenthPrice, demandOf};
 ghost use Rattle.market.specs.Rows.{RowLists, listed};
 ghost use Rattle.market.specs.Bracket.{Under, Narrower};
 
@@ -42,9 +42,9 @@ pub(crate) fn narrowed(
     b: PriceBracket,
     price: u32,
 ) -> PriceBracket
-    requires { ⌜ Shaped c × RowLists (now prices) (now quantities) n × Under c (listed (now prices) (now quantities) n) b ⌝ }
+    requires { ⌜ Shaped c × RowLists (now prices) (now quantities) n × Under (demandOf c) (listed (now prices) (now quantities) n) b ⌝ }
     requires { ⌜ (b .from ≤ price) × (price < b .cap) ⌝ }
-    ensures { λ r. ⌜ Under c (listed (now (prices .entry)) (now (quantities .entry)) n) r × Narrower b r ⌝ }
+    ensures { λ r. ⌜ Under (demandOf c) (listed (now (prices .entry)) (now (quantities .entry)) n) r × Narrower b r ⌝ }
 {
     let offered = supply_at(prices, quantities, n, price);
     if bought(c, offered, price) {
@@ -78,8 +78,8 @@ pub(crate) fn narrow(
     b: PriceBracket,
     few: u32,
 ) -> PriceBracket
-    requires { ⌜ Shaped c × RowLists (now prices) (now quantities) n × Under c (listed (now prices) (now quantities) n) b ⌝ }
-    ensures { λ r. ⌜ Under c (listed (now (prices .entry)) (now (quantities .entry)) n) r × (b .from ≤ r .from) ⌝ }
+    requires { ⌜ Shaped c × RowLists (now prices) (now quantities) n × Under (demandOf c) (listed (now prices) (now quantities) n) b ⌝ }
+    ensures { λ r. ⌜ Under (demandOf c) (listed (now (prices .entry)) (now (quantities .entry)) n) r × (b .from ≤ r .from) ⌝ }
 {
     let mut at = b;
     let mut middle = true;

@@ -1,6 +1,7 @@
 -- `market::bracket::narrow` narrows a bracket. The loop's invariant: it is a bracket still, and no lower.
 -- Assumes nothing.
 use Prim.Native.Nat.{_-_, _≤_}
+use Rattle.curve.specs.Price.{demandOf}
 use Rattle.market.specs.Bracket.{Under}
 use Rattle.market.specs.Rows.{listed}
 use borrow.Author.Needs.{needs}
@@ -9,7 +10,7 @@ use Rattle.market.proofs.bracket.narrow.Tie as tie
 
 abbrev Inv-loop : tie.InvT-loop
 Inv-loop c prices quantities n few at₀ middle₀ idle₀ at middle idle =
-    Under c (listed prices quantities n) at × (at₀ .from ≤ at .from)
+    Under (demandOf c) (listed prices quantities n) at × (at₀ .from ≤ at .from)
 
 abbrev μ-loop : tie.MeasureT-loop
 μ-loop c prices quantities n few at₀ middle₀ idle₀ at middle idle = at .cap - at .from
