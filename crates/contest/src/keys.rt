@@ -1,7 +1,9 @@
 // What can be told of the keys alone, of rows that contend and of rows that do not: so each loop has one test and runs in lanes.
+use numbers::greater;
+use numbers::lesser;
 ghost use mathlib.Core.Path.{_≡_};
 ghost use mathlib.Core.Bool.{true};
-ghost use Prim.Native.Nat.{_≤_, max, min};
+ghost use Prim.Native.Nat.{_≤_};
 ghost use lib.ListN.{length};
 ghost use Rattle.contest.specs.Sieve.{keyAt};
 ghost use Rattle.contest.specs.Nearest.{Alike, HighestTo, LowestFrom};
@@ -34,13 +36,6 @@ pub fn alike(keys: &[u32], n: usize) -> bool
     others == 0
 }
 
-// The lesser of two numbers.
-fn lesser(a: u32, b: u32) -> u32
-    ensures { λ r. ⌜ r ≡ min a b ⌝ }
-{
-    if b < a { b } else { a }
-}
-
 // The key, or a number that no key passes where it is under `low`.
 fn from(key: u32, low: u32) -> u32
     ensures { λ r. ⌜ (low ≤ r) × (low ≤ key → r ≡ key) ⌝ }
@@ -60,13 +55,6 @@ pub fn lowest_from(keys: &[u32], n: usize, low: u32, high: u32) -> u32
         i += 1;
     }
     lowest
-}
-
-// The greater of two numbers.
-fn greater(a: u32, b: u32) -> u32
-    ensures { λ r. ⌜ r ≡ max a b ⌝ }
-{
-    if a < b { b } else { a }
 }
 
 // The key, or 0 where it is over `top`.

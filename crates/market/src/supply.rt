@@ -1,8 +1,9 @@
 // What is offered at a price or below, and the next price at which something is.
+use numbers::lesser;
 use std::num::wrapping_sub_u32;
 ghost use mathlib.Core.Path.{_≡_};
 ghost use mathlib.Core.Bool.{cond};
-ghost use Prim.Native.Nat.{min, _≤_};
+ghost use Prim.Native.Nat.{_≤_};
 ghost use lib.Dec.{leb};
 ghost use lib.ListN.{length};
 ghost use Rattle.auction.specs.Offers.{supply};
@@ -26,13 +27,6 @@ pub fn supply_at(prices: &[u32], quantities: &[u32], n: usize, limit: u32) -> u3
         sum += taken(prices[row], quantities[row], limit);
     }
     sum
-}
-
-// The lesser of two numbers.
-pub(crate) fn lesser(a: u32, b: u32) -> u32
-    ensures { λ r. ⌜ r ≡ min a b ⌝ }
-{
-    if b < a { b } else { a }
 }
 
 // The lowest price of a row at `from` or over it, or 1,000,000. The difference to a price below `from` wraps round to more
