@@ -23,6 +23,13 @@ pub record Narrower (old new : PriceBracket) : Type 0 where
   pub ordered : new .from ≤ new .cap
   pub less : new .cap - new .from < old .cap - old .from
 
+-- a bracket with a lower upper end
+pub record Lowered (old new : PriceBracket) : Type 0 where
+  pub from : new .from ≡ old .from
+  pub below : new .below ≡ old .below
+  pub ordered : new .from ≤ new .cap
+  pub less : new .cap ≤ old .cap
+
 -- of n prices none lies from one price up to, and without, another
 pub record NoneBefore (prices : List ℕ) (n from to : ℕ) : Type 0 where
   pub low : from ≤ to

@@ -1,4 +1,4 @@
-// What is offered at a price or below, and the next price at which something is.
+// What is offered at a price or below, and the next and the last price at which something is.
 use numbers::lesser;
 use std::num::wrapping_sub_u32;
 ghost use mathlib.Core.Path.{_≡_};
@@ -40,4 +40,16 @@ pub(crate) fn next_price(prices: &[u32], n: usize, from: u32) -> u32
         step = lesser(step, wrapping_sub_u32(prices[row], from));
     }
     from + step
+}
+
+// The highest price of a row up to `top`, or `from`. The difference to a price over `top` wraps round too.
+pub(crate) fn last_price(prices: &[u32], n: usize, from: u32, top: u32) -> u32
+    requires { ⌜ (n ≤ length (now prices)) × (from ≤ top) ⌝ }
+    ensures { λ r. ⌜ (from ≤ r) × (r ≤ top) ⌝ }
+{
+    let mut step = top - from;
+    for row in 0..n {
+        step = lesser(step, wrapping_sub_u32(top, prices[row]));
+    }
+    top - step
 }
