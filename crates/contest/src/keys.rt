@@ -16,7 +16,7 @@ fn differs(key: u32, first: u32) -> u32
 }
 
 // All keys are the same. Those that are not mostly differ at the ends.
-pub fn alike(keys: &[u32], n: usize) -> bool
+pub(crate) fn alike(keys: &[u32], n: usize) -> bool
     requires { ⌜ (n ≤ length (now keys)) × (n ≤ 600) ⌝ }
     ensures { λ r. ⌜ (r ≡ true → Alike (keyAt (now (keys .entry))) n) ⌝ }
 {
@@ -44,7 +44,7 @@ fn from(key: u32, low: u32) -> u32
 }
 
 // The lowest key from `low` on, or `high` where that is lower.
-pub fn lowest_from(keys: &[u32], n: usize, low: u32, high: u32) -> u32
+pub(crate) fn lowest_from(keys: &[u32], n: usize, low: u32, high: u32) -> u32
     requires { ⌜ (n ≤ length (now keys)) × (low ≤ high) ⌝ }
     ensures { λ r. ⌜ LowestFrom (keyAt (now (keys .entry))) n low high r ⌝ }
 {
@@ -65,7 +65,7 @@ fn up_to(key: u32, top: u32) -> u32
 }
 
 // The highest key up to `top`, or `low` where that is higher.
-pub fn highest_to(keys: &[u32], n: usize, low: u32, top: u32) -> u32
+pub(crate) fn highest_to(keys: &[u32], n: usize, low: u32, top: u32) -> u32
     requires { ⌜ (n ≤ length (now keys)) × (low ≤ top) ⌝ }
     ensures { λ r. ⌜ HighestTo (keyAt (now (keys .entry))) n low top r ⌝ }
 {
