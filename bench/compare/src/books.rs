@@ -17,6 +17,7 @@ pub fn cases() -> Vec<Case> {
     let case = |name, book, target| Case { name, book, target };
     vec![
         case("600 offers, distinct prices", written(&distinct()), 0.5),
+        case("600 offers, prices within 20 cents", written(&close()), 0.6),
         case("600 all tied", written(&tied()), 0.7),
         case("600 tied, equal quantities", written(&equal()), 0.7),
         case("600 tied, equal, stamps rising", written(&rising()), 0.7),
@@ -49,6 +50,11 @@ fn distinct() -> Vec<Offer> {
             Offer { block: Some(9), ..offer((at + 1).wrapping_mul(2_654_435_761), 10 + at % 20, price, stamp) }
         })
         .collect()
+}
+
+/// The same offers at 21 prices next to each other; the total stops at the nineteenth.
+fn close() -> Vec<Offer> {
+    (0..).zip(distinct()).map(|(at, offer): (u32, _)| Offer { price: Some(37_490 + at * 7_919 % 21), ..offer }).collect()
 }
 
 /// The same offers at one price, at which not all clear: remainders differ, and the spare tenths go by them.

@@ -1,12 +1,13 @@
 -- The order of spare tenths, `ahead`, is a strict order in which no two offers of a book stand level.
 --
--- It is read as its keys, one after the other: the remainder, from its end, then the stamp, then the resource.
+-- It is read as its keys, one after the other: the remainder, the highest first, then the stamp, then the resource.
 -- Assumes nothing.
 use mathlib.Core.Path.{_≡_}
 use mathlib.Core.Bool.{Bool, true}
 use Prim.Native.Nat.{ℕ, _<_}
-use Rattle.laws.proofs.Orders.{StrictOrder, Tied, byKey, thenBy, reversed}
-use Rattle.laws.proofs.Orders.{byKey-order, byKey-tied, reversed-order, thenBy-order, thenBy-tied, thenBy-lower}
+use Rattle.laws.specs.Orders.{byKey, thenBy}
+use Rattle.laws.proofs.Orders.{StrictOrder, Tied, byKey-order, byKey-tied, thenBy-order, thenBy-tied}
+use Rattle.laws.proofs.Orders.{highestBy-order, highestBy-tied, highestBy-higher}
 use Rattle.laws.proofs.Ranks.{NoTies}
 use Rattle.auction.specs.Offers.{Offers, Proper}
 use Rattle.auction.specs.Shares.{remainder, ahead}
@@ -19,14 +20,13 @@ byStamp o = thenBy (o .stamp) (byKey (o .resource))
 pub ahead-order : (o : Offers) (x : ℕ) → StrictOrder (ahead o x)
 unfolding ahead
 ahead-order o x =
-    let stamped = thenBy-order (o .stamp) _ (byKey-order (o .resource)) in
-    reversed-order _ (thenBy-order (remainder o x) (reversed (byStamp o)) (reversed-order _ stamped))
+    highestBy-order (remainder o x) (byStamp o) (thenBy-order (o .stamp) _ (byKey-order (o .resource)))
 
 -- offers of which neither is ahead have one resource number
 ahead-tied : (o : Offers) (x i j : ℕ) → Tied (ahead o x) i j → o .resource i ≡ o .resource j
 unfolding ahead
 ahead-tied o x i j t =
-    let remained = thenBy-tied (remainder o x) (reversed (byStamp o)) j i t in
+    let remained = highestBy-tied (remainder o x) (byStamp o) i j t in
     let stamped = thenBy-tied (o .stamp) (byKey (o .resource)) i j (remained .1) in
     byKey-tied (o .resource) i j (stamped .1)
 
@@ -37,4 +37,4 @@ ahead-untied o x within proper i j k l v w t = proper .distinct i j k l (ahead-t
 -- the larger remainder is ahead
 pub ahead-larger : (o : Offers) (x i j : ℕ) → remainder o x i < remainder o x j → ahead o x j i ≡ true
 unfolding ahead
-ahead-larger o x i j l = thenBy-lower (remainder o x) (reversed (byStamp o)) i j l
+ahead-larger o x i j l = highestBy-higher (remainder o x) (byStamp o) j i l

@@ -1,7 +1,7 @@
 -- Amounts that clear by the clearing price are the best choice.
 --
--- In order: what it is to clear by price, and to be best; the one implies the other; amounts that divide the cleared total
--- by levels, however each level is divided, clear by price and are best.
+-- In order: amounts that clear by price are best; amounts that divide the cleared total by levels, however each level is
+-- divided, clear by price and are best.
 -- Assumes nothing.
 use mathlib.Core.Path.{_≡_}
 use mathlib.Core.Option.{some}
@@ -12,33 +12,14 @@ use Rattle.laws.proofs.Cases.{by-order}
 use Rattle.laws.proofs.Sums.{sumTo-place}
 use Rattle.auction.specs.Offers.{Offers, Demand, Falling}
 use Rattle.auction.specs.Clearing.{clearedTotal, clearingPrice}
-use Rattle.auction.specs.Surplus.{total, Choice, NoMoreSurplus}
+use Rattle.auction.specs.Surplus.{total}
+use Rattle.auction.specs.Demands.{IsTotal, ByPrice, Best}
 use Rattle.auction.proofs.Supply.{supply-all, supply-place}
-use Rattle.auction.proofs.Total.{IsTotal, total-is-largest, supply-past-total}
+use Rattle.auction.proofs.Total.{total-is-largest, supply-past-total}
 use Rattle.auction.proofs.Price.{Margin, marginPrice, marginPrice-margin, price-some, price-margin}
 use Rattle.auction.proofs.Levels.{level-under-price, level-over-price}
 use Rattle.auction.proofs.ByLevel.{ByLevel, byLevel-total, byLevel-whole, byLevel-nothing}
 use Rattle.auction.proofs.Optimal.{Separated, no-more-surplus, equal-surplus-clears-no-more}
-
--- the amounts x clear by price
-pub record ByPrice (d : Demand) (o : Offers) (x : ℕ → ℕ) : Type 0 where
-  -- no offer clears more than its quantity
-  pub within : (i : ℕ) → i < o .count → x i ≤ o .quantity i
-  -- together they are the cleared total
-  pub sum : total o x ≡ clearedTotal d o
-  -- every offer under the clearing price clears in full
-  pub whole : (p : ℕ) → clearingPrice d o ≡ some p → (i : ℕ) → i < o .count → o .price i < p → x i ≡ o .quantity i
-  -- every offer over the clearing price clears nothing
-  pub nothing : (p : ℕ) → clearingPrice d o ≡ some p → (i : ℕ) → i < o .count → p < o .price i → x i ≡ 0
-
--- the amounts x are the best choice
-pub record Best (d : Demand) (o : Offers) (x : ℕ → ℕ) : Type 0 where
-  -- they are a choice: each between nothing and the offered quantity, together no more than the curve's last point
-  pub choice : Choice d o x
-  -- no other choice leaves more surplus
-  pub most : (a : ℕ → ℕ) → Choice d o a → NoMoreSurplus d o a x
-  -- none with equal surplus clears more
-  pub largest : (a : ℕ → ℕ) → Choice d o a → NoMoreSurplus d o x a → total o a ≤ total o x
 
 total-place : (o : Offers) (x : ℕ → ℕ) (i : ℕ) → i < o .count → x i ≤ total o x
 unfolding total

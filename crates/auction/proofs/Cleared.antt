@@ -10,8 +10,9 @@ use Rattle.auction.specs.Offers.{Offers, Demand, Proper, Falling, levelS
 use Rattle.auction.specs.Clearing.{clearedTotal}
 use Rattle.auction.specs.Shares.{levelAmount, cleared}
 use Rattle.auction.specs.Surplus.{total}
+use Rattle.auction.specs.Demands.{ByPrice, Best}
 use Rattle.auction.proofs.ByLevel.{ByLevel, byLevel-total, byLevel-whole, byLevel-nothing}
-use Rattle.auction.proofs.Best.{ByPrice, Best, byLevel-byPrice, byLevel-best}
+use Rattle.auction.proofs.Best.{byLevel-byPrice, byLevel-best}
 use Rattle.auction.proofs.ShareLaws.{share-within, shares-add-up}
 
 module _ (o : Offers) (x : ℕ) (proper : Proper o) where

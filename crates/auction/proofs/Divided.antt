@@ -1,33 +1,18 @@
 -- Amounts that divide a total by the stated shares, level by level.
 --
--- In order: `Divided`; what `cleared` gives is so divided; amounts that agree with it in every row are too.
+-- In order: what `cleared` gives is so divided; amounts that agree with it in every row are too.
 -- Assumes nothing.
 use mathlib.Core.Path.{_≡_, sym, _∙_}
-use mathlib.Core.Bool.{true}
-use mathlib.Core.Logic.{_⊎_, _↔_}
-use Prim.Native.Nat.{ℕ, suc, _≤_, _<_}
+use Prim.Native.Nat.{ℕ, _<_}
 use lib.Dec.{eqb}
-use Rattle.laws.specs.Sum.{sumWhere}
 use Rattle.laws.proofs.Summands.{sumWhere-ext}
 use Rattle.auction.specs.Offers.{Offers, Proper}
-use Rattle.auction.specs.Shares.{levelAmount, shareDown, remainder, spareTenths, ahead, rank, cleared}
+use Rattle.auction.specs.Shares.{cleared}
+use Rattle.auction.specs.Demands.{Divided}
 use Rattle.auction.proofs.ShareLaws.{share-down-or-up, share-within, shares-add-up}
 use Rattle.auction.proofs.Spares.{spare-tenth, spares-in-order}
 
--- the amounts a divide the total x by the stated shares
-pub record Divided (o : Offers) (x : ℕ) (a : ℕ → ℕ) : Type 0 where
-  -- each is its proportional part rounded down, or, where that leaves a remainder, up to a tenth
-  pub part : (i : ℕ) → i < o .count → (a i ≡ shareDown o x i) ⊎ ((a i ≡ suc (shareDown o x i)) × (0 < remainder o x i))
-  -- no part passes its offer
-  pub within : (i : ℕ) → i < o .count → a i ≤ o .quantity i
-  -- the parts of a price level add up exactly to what the level receives
-  pub exact : (p : ℕ) → sumWhere (λ i. eqb (o .price i) p) a (o .count) ≡ levelAmount o x p
-  -- a part is rounded up exactly where fewer of its level stand before it than there are spare tenths
-  pub first : (i : ℕ) → i < o .count → (a i ≡ suc (shareDown o x i)) ↔ (rank o x i < spareTenths o x (o .price i))
-  -- so of two offers of a level the one that is ahead gets a spare tenth if the other does
-  pub ordered : (i j : ℕ) → i < o .count → j < o .count → o .price j ≡ o .price i → ahead o x j i ≡ true
-      → a i ≡ suc (shareDown o x i) → a j ≡ suc (shareDown o x j)
-
+-- what `cleared` gives divides the total by the stated shares
 pub cleared-divided : (o : Offers) (x : ℕ) → Proper o → Divided o x (cleared o x)
 cleared-divided o x proper =
     record {
@@ -38,6 +23,7 @@ cleared-divided o x proper =
       ordered = λ i j l m e b h. spares-in-order o x i j m e b h;
     }
 
+-- and so do amounts that agree with such amounts in every row
 pub divided-agree : (o : Offers) (x : ℕ) (a b : ℕ → ℕ) → ((i : ℕ) → i < o .count → b i ≡ a i) → Divided o x a → Divided o x b
 divided-agree o x a b e d =
     record {

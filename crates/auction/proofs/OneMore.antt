@@ -1,6 +1,6 @@
 -- One more offer never lowers the cleared total and never raises the price.
 --
--- In order: what a book with one more offer is, and that it supplies no less; what holds wherever no less is supplied.
+-- In order: a book with one more offer supplies no less; what holds wherever no less is supplied.
 -- Assumes nothing.
 use mathlib.Core.Path.{_≡_, ap}
 use mathlib.Core.Option.{some}
@@ -10,16 +10,11 @@ use lib.Dec.{leb}
 use Rattle.laws.proofs.Cases.{by-order}
 use Rattle.laws.proofs.Where.{sumWhere-more, sumWhere-agree}
 use Rattle.auction.specs.Offers.{Offers, Demand, Falling, supply}
-use Rattle.auction.specs.Clearing.{clearedTotal, clearingPrice}
+use Rattle.auction.specs.Clearing.{clearedTotal}
+use Rattle.auction.specs.Demands.{OneMore, NoDearer}
 use Rattle.auction.proofs.Total.{total-is-largest}
 use Rattle.auction.proofs.Price.{Margin, marginPrice, marginPrice-margin, marginPrice-greatest}
 use Rattle.auction.proofs.Price.{price-some, price-some-only, price-marginPrice, price-margin}
-
--- o′ has one more offer than o, at the end
-pub record OneMore (o o′ : Offers) : Type 0 where
-  pub count : o′ .count ≡ suc (o .count)
-  pub price : (i : ℕ) → i < o .count → o .price i ≡ o′ .price i
-  pub quantity : (i : ℕ) → i < o .count → o .quantity i ≡ o′ .quantity i
 
 -- at every price no less is offered
 abbrev pub NoLess : Offers → Offers → Type 0
@@ -34,15 +29,6 @@ one-more-no-less o o′ m p =
   where
     same : (i : ℕ) → i < o .count → leb (o .price i) p ≡ leb (o′ .price i) p
     same i l = ap (λ (q : ℕ). leb q p) (m .price i l)
-
--- from o to o′ the total does not fall and the price does not rise
-pub record NoDearer (d : Demand) (o o′ : Offers) : Type 0 where
-  -- the cleared total does not fall
-  pub total : clearedTotal d o ≤ clearedTotal d o′
-  -- where there was a price there is one
-  pub priced : (p : ℕ) → clearingPrice d o ≡ some p → (q : ℕ) × (clearingPrice d o′ ≡ some q)
-  -- and it does not rise
-  pub price : (p q : ℕ) → clearingPrice d o ≡ some p → clearingPrice d o′ ≡ some q → q ≤ p
 
 module _ (d : Demand) (o o′ : Offers) (more : NoLess o o′) where
   total-no-less : clearedTotal d o ≤ clearedTotal d o′

@@ -14,8 +14,9 @@ use Rattle.laws.proofs.Cases.{by-order, cond-true, cond-false}
 use Rattle.laws.proofs.Compare.{le-unless}
 use Rattle.auction.specs.Offers.{Offers, Demand, Falling, supply, supplyBelow}
 use Rattle.auction.specs.Clearing.{clearedTotal, nextPrice, clearingPrice}
+use Rattle.auction.specs.Demands.{IsTotal}
 use Rattle.auction.proofs.Supply.{supply-mono, supply-supplyBelow}
-use Rattle.auction.proofs.Total.{IsTotal, total-is-largest, supply-past-total}
+use Rattle.auction.proofs.Total.{total-is-largest, supply-past-total}
 use Rattle.auction.proofs.NextPrice.{Next, IsNext, next-is, next-under}
 
 lesser-left : (v : ℕ) (a : Option ℕ) → lesser v a ≤ v

@@ -1,4 +1,4 @@
--- The cleared total: what it is, that it is alone, and what holds below and past it.
+-- The cleared total: that it is the largest that can be supplied, that it is alone, and what holds below and past it.
 -- Assumes nothing.
 use mathlib.Core.Path.{_≡_}
 use mathlib.Core.Bool.{Bool}
@@ -11,24 +11,12 @@ use Rattle.laws.proofs.Cases.{by-order}
 use Rattle.laws.proofs.Largests.{Closed, largest-is, largest-passes}
 use Rattle.auction.specs.Offers.{Offers, Demand, Falling, supply}
 use Rattle.auction.specs.Clearing.{clearedTotal}
+use Rattle.auction.specs.Demands.{Suppliable, IsTotal}
 use Rattle.auction.proofs.Supply.{supply-mono}
 
--- a quantity that the offers priced at or below the curve there can supply
-abbrev pub Suppliable : Demand → Offers → ℕ → Type 0
-Suppliable d o k = k ≤ supply o (d .price k)
-
--- the same as a test
+-- the test that a quantity can be supplied
 abbrev pub supplies : Demand → Offers → ℕ → Bool
 supplies d o k = leb k (supply o (d .price k))
-
--- x is the largest quantity that the offers priced at or below the curve there can supply
-pub record IsTotal (d : Demand) (o : Offers) (x : ℕ) : Type 0 where
-  -- it is not past the curve's last point
-  pub within : x ≤ d .last
-  -- the offers priced at or below the curve price at x sum to at least x
-  pub supplied : Suppliable d o x
-  -- no larger quantity up to the last point is so supplied
-  pub most : (k : ℕ) → k ≤ d .last → Suppliable d o k → k ≤ x
 
 -- the cleared total is the largest quantity that the offers priced at or below the curve there can supply
 pub total-is-largest : (d : Demand) (o : Offers) → IsTotal d o (clearedTotal d o)

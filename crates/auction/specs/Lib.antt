@@ -3,3 +3,4 @@ pub mod Clearing
 pub mod Shares
 pub mod Settlement
 pub mod Surplus
+pub mod Demands

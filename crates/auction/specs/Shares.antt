@@ -1,9 +1,10 @@
 -- What each offer clears of a total x: its price level's amount, its share of it, and the order of the spare tenths.
 -- Assumes nothing.
 use Prim.Native.Nat.{ℕ, _+_, _-_, _*_, _/_, _%_, min}
-use mathlib.Core.Bool.{Bool, cond, _&&_, _||_}
+use mathlib.Core.Bool.{Bool, cond, _&&_}
 use lib.Dec.{ltb, eqb}
 use Rattle.laws.specs.Sum.{sumWhere, countWhere}
+use Rattle.laws.specs.Orders.{byKey, thenBy, highestBy}
 use Rattle.auction.specs.Offers.{Offers, supplyBelow, levelSum}
 
 -- a price level receives x minus everything offered strictly below it, not less than 0 nor more than the level's sum
@@ -26,14 +27,9 @@ remainder o x i = weighted o x i % levelSum o (o .price i)
 unfoldable pub spareTenths : Offers → ℕ → ℕ → ℕ
 spareTenths o x p = levelAmount o x p - sumWhere (λ i. eqb (o .price i) p) (shareDown o x) (o .count)
 
--- j stands before i in the order of spare tenths: the larger remainder, then the earlier stamp, then the lower resource
+-- the order of spare tenths: the larger remainder, then the earlier stamp, then the lower resource
 unfoldable pub ahead : Offers → ℕ → ℕ → ℕ → Bool
-ahead o x j i =
-    ltb (remainder o x i) (remainder o x j)
-    || (eqb (remainder o x i) (remainder o x j)
-    && (ltb (o .stamp j) (o .stamp i)
-    || (eqb (o .stamp j) (o .stamp i)
-    && ltb (o .resource j) (o .resource i))))
+ahead o x = highestBy (remainder o x) (thenBy (o .stamp) (byKey (o .resource)))
 
 -- how many of row i's level stand before it
 unfoldable pub rank : Offers → ℕ → ℕ → ℕ

@@ -12,10 +12,11 @@ use Rattle.laws.proofs.Sums.{sumTo-ext}
 use Rattle.auction.specs.Offers.{Offers, Demand}
 use Rattle.auction.specs.Clearing.{clearedTotal, clearingPrice}
 use Rattle.auction.specs.Shares.{cleared}
-use Rattle.auction.proofs.Total.{IsTotal, total-is-largest}
-use Rattle.auction.proofs.Best.{ByPrice, Best, byPrice-best}
+use Rattle.auction.specs.Demands.{IsTotal, ByPrice, Best, Divided}
+use Rattle.auction.proofs.Total.{total-is-largest}
+use Rattle.auction.proofs.Best.{byPrice-best}
 use Rattle.auction.proofs.Cleared.{cleared-byPrice}
-use Rattle.auction.proofs.Divided.{Divided, cleared-divided, divided-agree}
+use Rattle.auction.proofs.Divided.{cleared-divided, divided-agree}
 use Rattle.market.specs.Price.{asPrice}
 use Rattle.layout.specs.Read.{bookParameters}
 use Rattle.book.specs.Faults.{firstFault}

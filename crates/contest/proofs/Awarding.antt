@@ -10,9 +10,10 @@ use native.Mathlib.Omega.{arith}
 use lib.ListN.{length, getD}
 use borrow.Author.Tests.{ne-eqb}
 use Rattle.laws.specs.Filled.{filled}
+use Rattle.laws.specs.Orders.{byKey}
 use Rattle.laws.proofs.FilledRows.{filled-row, filled-past}
 use Rattle.laws.proofs.Filling.{length-filling}
-use Rattle.laws.proofs.Orders.{byKey, byKey-order, thenBy-order}
+use Rattle.laws.proofs.Orders.{byKey-order, thenBy-order}
 use Rattle.contest.specs.Contest.{wins, contenders, inOrder}
 use Rattle.contest.specs.Sieve.{keyAt, settled, winners}
 use Rattle.contest.specs.Award.{Awarded, Sifted, Told}

@@ -5,3 +5,4 @@ pub mod Parting
 pub mod Closing
 pub mod Telling
 pub mod Awarding
+pub mod Decided

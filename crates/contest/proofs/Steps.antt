@@ -10,9 +10,10 @@ use native.Mathlib.Omega.{arith}
 use lib.Dec.{ltb, eqb}
 use borrow.Author.Tests.{ltb-true, eqb-true, lt-ltb, le-ltb, eq-eqb, ne-eqb}
 use Rattle.laws.specs.Sum.{countWhere}
+use Rattle.laws.specs.Orders.{thenBy}
 use Rattle.laws.proofs.Cases.{by-test, and-left, and-right}
 use Rattle.laws.proofs.Counts.{countWhere-mono, countWhere-less}
-use Rattle.laws.proofs.Orders.{thenBy, by-comparison, thenBy-lower}
+use Rattle.laws.proofs.Orders.{by-comparison, thenBy-lower}
 use Rattle.laws.proofs.Ranks.{rankAmong}
 use Rattle.laws.proofs.Where.{sumWhere-either, sumWhere-same}
 use Rattle.contest.specs.Contest.{wins}

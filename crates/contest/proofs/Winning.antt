@@ -9,9 +9,9 @@ use Prim.Native.Nat.{ℕ, _<_, zero-le}
 use lib.Dec.{ltb}
 use borrow.Author.Tests.{le-ltb}
 use Rattle.laws.specs.Sum.{countWhere}
+use Rattle.laws.specs.Orders.{byKey, thenBy}
 use Rattle.laws.proofs.Counts.{countWhere-within}
 use Rattle.laws.proofs.Where.{sumWhere-same, sumWhere-none}
-use Rattle.laws.proofs.Orders.{byKey, thenBy}
 use Rattle.laws.proofs.Ranks.{rankAmong}
 use Rattle.contest.specs.Contest.{wins}
 

@@ -5,7 +5,7 @@ use mathlib.Core.Path.{_≡_}
 use mathlib.Core.Bool.{Bool, false, cond}
 use mathlib.Core.List.{List}
 use lib.ListN.{length, getD}
-use Rattle.laws.proofs.Orders.{thenBy}
+use Rattle.laws.specs.Orders.{thenBy}
 use Rattle.contest.specs.Contest.{wins, contenders, inOrder}
 use Rattle.contest.specs.Sieve.{comesOut, keyAt}
 

@@ -8,7 +8,7 @@ use mathlib.Core.List.{List}
 use lib.ListN.{getD}
 use lib.Dec.{ltb, eqb}
 use Rattle.laws.specs.Sum.{countWhere}
-use Rattle.laws.proofs.Orders.{byKey, thenBy}
+use Rattle.laws.specs.Orders.{byKey, thenBy}
 
 -- i contends, and fewer than `spare` of the n rows that contend stand before it
 unfoldable pub wins : (ℕ → Bool) → (ℕ → ℕ → Bool) → ℕ → ℕ → ℕ → Bool

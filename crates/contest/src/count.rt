@@ -19,7 +19,7 @@ fn counted(standing: u32, key: u32, limit: u32) -> u32
 }
 
 // How many of the first n rows contend with a key under the limit.
-pub fn under(keys: &[u32], standings: &[u32], n: usize, limit: u32) -> u32
+pub(crate) fn under(keys: &[u32], standings: &[u32], n: usize, limit: u32) -> u32
     requires { ⌜ Keyed (now keys) (now standings) n ⌝ }
     ensures { λ r. ⌜ (r ≡ countUnder (contenders (now (standings .entry))) (keyAt (now (keys .entry))) limit n) × (r ≤ 600) ⌝ }
 {

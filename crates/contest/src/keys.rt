@@ -1,7 +1,9 @@
 // What can be told of the keys alone, of rows that contend and of rows that do not: so each loop has one test and runs in lanes.
+use numbers::greater;
+use numbers::lesser;
 ghost use mathlib.Core.Path.{_≡_};
 ghost use mathlib.Core.Bool.{true};
-ghost use Prim.Native.Nat.{_≤_, max, min};
+ghost use Prim.Native.Nat.{_≤_};
 ghost use lib.ListN.{length};
 ghost use Rattle.contest.specs.Sieve.{keyAt};
 ghost use Rattle.contest.specs.Nearest.{Alike, HighestTo, LowestFrom};
@@ -14,7 +16,7 @@ fn differs(key: u32, first: u32) -> u32
 }
 
 // All keys are the same. Those that are not mostly differ at the ends.
-pub fn alike(keys: &[u32], n: usize) -> bool
+pub(crate) fn alike(keys: &[u32], n: usize) -> bool
     requires { ⌜ (n ≤ length (now keys)) × (n ≤ 600) ⌝ }
     ensures { λ r. ⌜ (r ≡ true → Alike (keyAt (now (keys .entry))) n) ⌝ }
 {
@@ -34,13 +36,6 @@ pub fn alike(keys: &[u32], n: usize) -> bool
     others == 0
 }
 
-// The lesser of two numbers.
-fn lesser(a: u32, b: u32) -> u32
-    ensures { λ r. ⌜ r ≡ min a b ⌝ }
-{
-    if b < a { b } else { a }
-}
-
 // The key, or a number that no key passes where it is under `low`.
 fn from(key: u32, low: u32) -> u32
     ensures { λ r. ⌜ (low ≤ r) × (low ≤ key → r ≡ key) ⌝ }
@@ -49,7 +44,7 @@ fn from(key: u32, low: u32) -> u32
 }
 
 // The lowest key from `low` on, or `high` where that is lower.
-pub fn lowest_from(keys: &[u32], n: usize, low: u32, high: u32) -> u32
+pub(crate) fn lowest_from(keys: &[u32], n: usize, low: u32, high: u32) -> u32
     requires { ⌜ (n ≤ length (now keys)) × (low ≤ high) ⌝ }
     ensures { λ r. ⌜ LowestFrom (keyAt (now (keys .entry))) n low high r ⌝ }
 {
@@ -62,13 +57,6 @@ pub fn lowest_from(keys: &[u32], n: usize, low: u32, high: u32) -> u32
     lowest
 }
 
-// The greater of two numbers.
-fn greater(a: u32, b: u32) -> u32
-    ensures { λ r. ⌜ r ≡ max a b ⌝ }
-{
-    if a < b { b } else { a }
-}
-
 // The key, or 0 where it is over `top`.
 fn up_to(key: u32, top: u32) -> u32
     ensures { λ r. ⌜ (r ≤ top) × (key ≤ top → r ≡ key) ⌝ }
@@ -77,7 +65,7 @@ fn up_to(key: u32, top: u32) -> u32
 }
 
 // The highest key up to `top`, or `low` where that is higher.
-pub fn highest_to(keys: &[u32], n: usize, low: u32, top: u32) -> u32
+pub(crate) fn highest_to(keys: &[u32], n: usize, low: u32, top: u32) -> u32
     requires { ⌜ (n ≤ length (now keys)) × (low ≤ top) ⌝ }
     ensures { λ r. ⌜ HighestTo (keyAt (now (keys .entry))) n low top r ⌝ }
 {

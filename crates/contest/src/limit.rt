@@ -135,7 +135,7 @@ fn turn(
 }
 
 // A key such that who contends under it wins and who contends over it does not.
-pub fn threshold(keys: &[u32], standings: &[u32], n: usize, spare: u32) -> Parting
+pub(crate) fn threshold(keys: &[u32], standings: &[u32], n: usize, spare: u32) -> Parting
     requires { ⌜ Keyed (now keys) (now standings) n ⌝ }
     ensures { λ r. ⌜ LimitFound (contenders (now (standings .entry))) (keyAt (now (keys .entry))) n spare r ⌝ }
 {

@@ -2,12 +2,14 @@
 -- Assumes nothing.
 use mathlib.Core.Path.{_≡_, sym, _∙_}
 use Prim.Native.Nat.{ℕ}
+use Rattle.units.specs.declared.CentsPerMwDay.{CentsPerMwDay}
 use Rattle.curve.specs.declared.Curve.{Curve}
 use Rattle.curve.specs.declared.CurvePrice.{CurvePrice}
 use Rattle.curve.specs.declared.Terms.{Terms}
 use Rattle.curve.specs.declared.Weights.{Weights}
 use Rattle.curve.proofs.points.Reads as points
 use Rattle.curve.proofs.points_2026.Reads as points-2026
+use Rattle.curve.proofs.tenth_price.Reads as tenth-price
 use Rattle.curve.proofs.price_at.Reads as price-at
 
 -- the points, by the contract of `points`
@@ -20,6 +22,11 @@ points-decided w whole t r s e f = e .0 ∙ sym (f .0)
 pub points-2026-decided : (t : Terms) (r s : Curve)
     → points-2026.Post tt (t, tt) r (t, tt) → points-2026.Post tt (t, tt) s (t, tt) → r ≡ s
 points-2026-decided t r s e f = e .0 ∙ sym (f .0)
+
+-- the price at a quantity up to Q3, by the contract of `tenth_price`
+pub tenth-price-decided : (c : Curve) (k : ℕ) (r s : CentsPerMwDay)
+    → tenth-price.Post tt (c, (k, tt)) r (c, (k, tt)) → tenth-price.Post tt (c, (k, tt)) s (c, (k, tt)) → r ≡ s
+tenth-price-decided c k r s e f = λ i. record { 0 = (e .0 ∙ sym (f .0)) i }
 
 -- the price, or that there is none, by the contract of `price_at`
 pub curve-price-decided : (c : Curve) (k : ℕ) (r s : CurvePrice)

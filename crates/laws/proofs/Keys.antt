@@ -7,17 +7,19 @@ use mathlib.Core.Path.{_≡_, sym, _∙_}
 use mathlib.Core.Bool.{Bool}
 use Prim.Native.Nat.{ℕ, _+_, _*_, _<_}
 use native.Mathlib.Omega.{arith}
-use Rattle.laws.proofs.Orders.{thenBy, reversed, by-comparison, thenBy-lower, thenBy-equal, thenBy-higher}
+use Rattle.laws.specs.Orders.{thenBy, highestBy}
+use Rattle.laws.proofs.Orders.{by-comparison, thenBy-lower, thenBy-equal, thenBy-higher}
+use Rattle.laws.proofs.Orders.{highestBy-lower, highestBy-equal, highestBy-higher}
 
 -- where key and other add up to one number at both places, the lower key is the higher other
 pub thenBy-rest : (key other : ℕ → ℕ) (rest : ℕ → ℕ → Bool) (top i j : ℕ)
     → key i + other i ≡ top → key j + other j ≡ top
-    → thenBy key rest i j ≡ reversed (thenBy other (reversed rest)) i j
+    → thenBy key rest i j ≡ highestBy other rest i j
 thenBy-rest key other rest top i j e f =
     by-comparison (key i) (key j)
-    (λ h. thenBy-lower key rest i j h ∙ sym (thenBy-lower other (reversed rest) j i (omega arith)))
-    (λ h. thenBy-equal key rest i j h ∙ sym (thenBy-equal other (reversed rest) j i (omega arith)))
-    (λ h. thenBy-higher key rest i j h ∙ sym (thenBy-higher other (reversed rest) j i (omega arith)))
+    (λ h. thenBy-lower key rest i j h ∙ sym (highestBy-higher other rest i j (omega arith)))
+    (λ h. thenBy-equal key rest i j h ∙ sym (highestBy-equal other rest i j (omega arith)))
+    (λ h. thenBy-higher key rest i j h ∙ sym (highestBy-lower other rest i j (omega arith)))
 
 module _ (high low : ℕ → ℕ) (rest : ℕ → ℕ → Bool)
     (i j : ℕ) (small-i : low i < 4294967296) (small-j : low j < 4294967296) where

@@ -1,14 +1,14 @@
 -- Strict orders of places, given by Boolean tests, and orders by one key after another.
 --
--- In order: what a strict order is, and who stands level in it; the order by a key; the order from its end; the order by
--- a key first and then by another order.
+-- In order: what a strict order is, and who stands level in it; the order by a key; the order by a key first and then by
+-- another order; the same with the higher key first, which is that order from its end.
 -- Assumes nothing.
 use mathlib.Core.Path.{_≡_, refl, sym, _∙_}
-use mathlib.Core.Bool.{Bool, true, false, _&&_, _||_, true≢false}
+use mathlib.Core.Bool.{Bool, true, false, true≢false}
 use Prim.Native.Nat.{ℕ, _<_}
 use native.Mathlib.Omega.{arith}
-use lib.Dec.{ltb, eqb}
 use borrow.Author.Tests.{ltb-true, ltb-false, lt-ltb, le-ltb, eq-eqb, ne-eqb}
+use Rattle.laws.specs.Orders.{byKey, thenBy, highestBy}
 pub use Rattle.laws.proofs.Compare.{by-comparison}
 
 -- a test of two places that orders them strictly
@@ -22,18 +22,6 @@ pub record StrictOrder (before : ℕ → ℕ → Bool) : Type 0 where
 abbrev pub Tied : (ℕ → ℕ → Bool) → ℕ → ℕ → Type 0
 Tied before i j = (before i j ≡ false) × (before j i ≡ false)
 
--- the lower key first
-abbrev pub byKey : (ℕ → ℕ) → ℕ → ℕ → Bool
-byKey key i j = ltb (key i) (key j)
-
--- the lower key first, and the order `rest` among equal keys
-abbrev pub thenBy : (ℕ → ℕ) → (ℕ → ℕ → Bool) → ℕ → ℕ → Bool
-thenBy key rest i j = ltb (key i) (key j) || (eqb (key i) (key j) && rest i j)
-
--- the order from its end
-abbrev pub reversed : (ℕ → ℕ → Bool) → ℕ → ℕ → Bool
-reversed before i j = before j i
-
 -- the order by a key is strict
 pub byKey-order : (key : ℕ → ℕ) → StrictOrder (byKey key)
 byKey-order key =
@@ -46,11 +34,6 @@ byKey-order key =
 -- those that stand level in it have equal keys
 pub byKey-tied : (key : ℕ → ℕ) (i j : ℕ) → Tied (byKey key) i j → key i ≡ key j
 byKey-tied key i j t = omega (arith, ltb-false (key i) (key j) (t .0), ltb-false (key j) (key i) (t .1))
-
--- a strict order from its end is strict
-pub reversed-order : (before : ℕ → ℕ → Bool) → StrictOrder before → StrictOrder (reversed before)
-reversed-order before order =
-    record { irreflexive = order .irreflexive; transitive = λ i j k a b. order .transitive k j i b a }
 
 module _ (key : ℕ → ℕ) (rest : ℕ → ℕ → Bool) where
   -- the lower key stands first
@@ -99,3 +82,33 @@ module _ (key : ℕ → ℕ) (rest : ℕ → ℕ → Bool) where
       (λ l. absurd (true≢false (sym (thenBy-lower i j l) ∙ t .0)))
       (λ e. (e, (sym (thenBy-equal i j e) ∙ t .0, sym (thenBy-equal j i (sym e)) ∙ t .1)))
       (λ l. absurd (true≢false (sym (thenBy-lower j i l) ∙ t .1)))
+
+-- the order from its end
+abbrev reversed : (ℕ → ℕ → Bool) → ℕ → ℕ → Bool
+reversed before i j = before j i
+
+-- a strict order from its end is strict
+reversed-order : (before : ℕ → ℕ → Bool) → StrictOrder before → StrictOrder (reversed before)
+reversed-order before order =
+    record { irreflexive = order .irreflexive; transitive = λ i j k a b. order .transitive k j i b a }
+
+module _ (key : ℕ → ℕ) (rest : ℕ → ℕ → Bool) where
+  -- the higher key stands first
+  pub highestBy-higher : (i j : ℕ) → key j < key i → highestBy key rest i j ≡ true
+  highestBy-higher i j l = thenBy-lower key (reversed rest) j i l
+
+  -- among equal keys the rest decides
+  pub highestBy-equal : (i j : ℕ) → key j ≡ key i → highestBy key rest i j ≡ rest i j
+  highestBy-equal i j e = thenBy-equal key (reversed rest) j i e
+
+  -- the lower key does not stand first
+  pub highestBy-lower : (i j : ℕ) → key i < key j → highestBy key rest i j ≡ false
+  highestBy-lower i j l = thenBy-higher key (reversed rest) j i l
+
+  -- the order by the highest key first and then by a strict order is strict
+  pub highestBy-order : StrictOrder rest → StrictOrder (highestBy key rest)
+  highestBy-order order = reversed-order _ (thenBy-order key (reversed rest) (reversed-order rest order))
+
+  -- those that stand level in it have equal keys and stand level in the rest
+  pub highestBy-tied : (i j : ℕ) → Tied (highestBy key rest) i j → (key i ≡ key j) × Tied rest i j
+  highestBy-tied i j t = let e = thenBy-tied key (reversed rest) i j (t .1, t .0) in (e .0, (e .1 .1, e .1 .0))

@@ -3,3 +3,4 @@ pub mod Nearest
 pub mod Largest
 pub mod Filled
 pub mod Lists
+pub mod Orders

@@ -15,12 +15,10 @@ use Rattle.laws.specs.Largest.{lesser}
 use Rattle.laws.proofs.Cases.{by-order}
 use Rattle.laws.proofs.Where.{sumWhere-every}
 use Rattle.laws.proofs.Largests.{largest-is}
-use Rattle.auction.specs.Offers.{Offers, supply, supplyBelow}
+use Rattle.auction.specs.Offers.{Offers, Demand, supply, supplyBelow}
 use Rattle.auction.specs.Clearing.{clearedTotal, nextPrice, clearingPrice}
 use Rattle.auction.proofs.Supply.{supply-mono, supplyBelow-suc}
 use Rattle.auction.proofs.NextPrice.{next-found, next-absent}
-use Rattle.curve.specs.Price.{demandOf, tenthPrice}
-use Rattle.curve.specs.declared.Curve.{Curve}
 use Rattle.market.specs.Stop.{stopLevel, StopsAt}
 use Rattle.market.specs.Price.{asPrice, levelPrice, priceAt}
 use Rattle.market.specs.declared.level.Level.{Level}
@@ -72,10 +70,11 @@ asPrice-cond : (t : Bool) (p : ℕ) → cond t NoPrice (asPrice (some p)) ≡ as
 asPrice-cond true p = refl
 asPrice-cond false p = refl
 
-pub price-agrees : (c : Curve) (o : Offers) (l : Level) → Cheap o → StopsAt o (clearedTotal (demandOf c) o) l
-    → priceAt c l ≡ asPrice (clearingPrice (demandOf c) o)
+-- the price by the level is the clearing price
+pub price-agrees : (d : Demand) (o : Offers) (l : Level) → Cheap o → StopsAt o (clearedTotal d o) l
+    → priceAt d l ≡ asPrice (clearingPrice d o)
 unfolding priceAt clearingPrice
-price-agrees c o l cheap s =
-    ap₂ (λ (t : ℕ) (next : Option ℕ). cond (eqb t 0) NoPrice (asPrice (some (lesser (tenthPrice c t) next))))
+price-agrees d o l cheap s =
+    ap₂ (λ (t : ℕ) (next : Option ℕ). cond (eqb t 0) NoPrice (asPrice (some (lesser (d .price t) next))))
     (s .total) (sym (next-level o _ l cheap s))
-    ∙ asPrice-cond (eqb (clearedTotal (demandOf c) o) 0) _
+    ∙ asPrice-cond (eqb (clearedTotal d o) 0) _

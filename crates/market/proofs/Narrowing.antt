@@ -1,10 +1,10 @@
 -- Brackets of prices, and of the quantity at which the curve reaches a price.
 --
 -- In order: the whole range of prices; a quantity that is offered at a price, and that the curve buys at it, can be supplied;
--- the bracket over such a price; below the next price of an offer no more is offered than below the bracket; a quantity at
--- which the curve asks less than the price, and where both ends meet.
+-- the bracket over such a price, and one with a lower upper end; below the next price of an offer no more is offered than
+-- below the bracket; a quantity at which the curve asks less than the price, and where both ends meet.
 -- Assumes nothing.
-use mathlib.Core.Path.{_≡_, sym, subst, _∙_}
+use mathlib.Core.Path.{_≡_, sym, ap, subst, _∙_}
 use mathlib.Core.List.{List}
 use Prim.Native.Nat.{ℕ, suc, _+_, _-_, _≤_, _<_}
 use native.Mathlib.Nat.{le-antisymm, le-trans}
@@ -14,18 +14,16 @@ use lib.Dec.{ltb}
 use borrow.Author.Tests.{lt-ltb, le-ltb}
 use Rattle.laws.proofs.Cases.{by-order}
 use Rattle.laws.proofs.Where.{sumWhere-same}
-use Rattle.auction.specs.Offers.{Offers, supply, supplyBelow}
+use Rattle.auction.specs.Offers.{Offers, Demand, supply, supplyBelow}
 use Rattle.auction.proofs.Supply.{supply-mono, supplyBelow-zero, supplyBelow-suc}
-use Rattle.curve.specs.Price.{tenthPrice}
-use Rattle.curve.specs.declared.Curve.{Curve}
 use Rattle.market.specs.Rows.{listed}
-use Rattle.market.specs.Bracket.{Under, NoneBefore, Reaches}
+use Rattle.market.specs.Bracket.{Under, Lowered, NoneBefore, Reaches}
 use Rattle.market.specs.declared.bracket.PriceBracket.{PriceBracket}
 
 -- below the price 0 nothing is offered, and nothing can be supplied
-pub under-whole : (c : Curve) (o : Offers) (cap over : ℕ) → cap ≤ 1000000
-    → Under c o (record { from = 0; below = 0; cap = cap; over = over })
-under-whole c o cap over l =
+pub under-whole : (d : Demand) (o : Offers) (cap over : ℕ) → cap ≤ 1000000
+    → Under d o (record { from = 0; below = 0; cap = cap; over = over })
+under-whole d o cap over l =
     record {
       low = omega arith;
       high = l;
@@ -35,16 +33,27 @@ under-whole c o cap over l =
     }
 
 -- a quantity that is offered at a price or below, where the curve asks no less, can be supplied
-pub supplied-at : (c : Curve) (o : Offers) (price s : ℕ) → s ≤ supply o price → price ≤ tenthPrice c s
-    → s ≤ supply o (tenthPrice c s)
-supplied-at c o price s l h = le-trans l (supply-mono o price (tenthPrice c s) h)
+pub supplied-at : (d : Demand) (o : Offers) (price s : ℕ) → s ≤ supply o price → price ≤ d .price s
+    → s ≤ supply o (d .price s)
+supplied-at d o price s l h = le-trans l (supply-mono o price (d .price s) h)
 
 -- over a price at which all that is offered can be supplied
-pub under-over : (c : Curve) (o : Offers) (b : PriceBracket) (price s : ℕ) → b .cap ≤ 1000000 → price < 1000000
-    → s ≡ supply o price → s ≤ c .q3 → s ≤ supply o (tenthPrice c s)
-    → Under c o (record { from = price + 1; below = s; cap = b .cap; over = b .over })
-under-over c o b price s h l e w m =
+pub under-over : (d : Demand) (o : Offers) (b : PriceBracket) (price s : ℕ) → b .cap ≤ 1000000 → price < 1000000
+    → s ≡ supply o price → s ≤ d .last → s ≤ supply o (d .price s)
+    → Under d o (record { from = price + 1; below = s; cap = b .cap; over = b .over })
+under-over d o b price s h l e w m =
     record { low = omega arith; high = h; below = rw (add-one, supplyBelow-suc) e; within = w; supplied = m }
+
+-- with a lower upper end
+pub under-lowered : (d : Demand) (o : Offers) (b r : PriceBracket) → Under d o b → Lowered b r → Under d o r
+under-lowered d o b r u l =
+    record {
+      low = rw (l .from) (u .low);
+      high = le-trans (l .less) (u .high);
+      below = l .below ∙ u .below ∙ ap (supplyBelow o) (sym (l .from));
+      within = rw (l .below) (u .within);
+      supplied = rw (l .below) (u .supplied);
+    }
 
 -- where no offer is priced from one price up to another, no more is offered below the other
 below-clear : (o : Offers) (from to : ℕ) → from ≤ to
@@ -58,14 +67,14 @@ below-clear o from to l none = sumWhere-same _ _ (o .quantity) (o .count) same
         (λ k. le-ltb _ to (none i h k) ∙ sym (le-ltb _ from k))
         (λ k. lt-ltb _ to (omega arith) ∙ sym (lt-ltb _ from k))
 
-pub below-next : (c : Curve) (prices quantities : List ℕ) (n : ℕ) (b : PriceBracket) (next : ℕ)
-    → Under c (listed prices quantities n) b → NoneBefore prices n (b .from) next
+pub below-next : (d : Demand) (prices quantities : List ℕ) (n : ℕ) (b : PriceBracket) (next : ℕ)
+    → Under d (listed prices quantities n) b → NoneBefore prices n (b .from) next
     → supplyBelow (listed prices quantities n) next ≡ b .below
-below-next c prices quantities n b next u m =
+below-next d prices quantities n b next u m =
     below-clear (listed prices quantities n) (b .from) next (m .low) (m .none) ∙ sym (u .below)
 
-module _ (c : Curve) (price below top low high : ℕ) (r : Reaches c price below top low high) where
-  pub reaches-under : (k : ℕ) → low < k → k ≤ high → tenthPrice c k < price → Reaches c price below top low (k - 1)
+module _ (d : Demand) (price below top low high : ℕ) (r : Reaches d price below top low high) where
+  pub reaches-under : (k : ℕ) → low < k → k ≤ high → d .price k < price → Reaches d price below top low (k - 1)
   reaches-under k l m h =
       let e : k ≡ suc (k - 1) = omega arith in
       record {
@@ -73,8 +82,8 @@ module _ (c : Curve) (price below top low high : ℕ) (r : Reaches c price below
         ordered = omega arith;
         end = omega (arith, r .end);
         met = r .met;
-        past = λ p. subst (λ (q : ℕ). tenthPrice c q < price) e h;
+        past = λ p. subst (λ (q : ℕ). d .price q < price) e h;
       }
 
-  pub reaches-met : high ≤ low → Reaches c price below top low low
-  reaches-met l = subst (Reaches c price below top low) (le-antisymm l (r .ordered)) r
+  pub reaches-met : high ≤ low → Reaches d price below top low low
+  reaches-met l = subst (Reaches d price below top low) (le-antisymm l (r .ordered)) r

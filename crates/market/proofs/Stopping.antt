@@ -17,10 +17,6 @@ use Rattle.auction.specs.Clearing.{clearedTotal}
 use Rattle.auction.specs.Shares.{levelAmount}
 use Rattle.auction.proofs.Supply.{supply-mono, supply-split, supply-supplyBelow, supplyBelow-supply}
 use Rattle.auction.proofs.Total.{supplies, supplies-closed}
-use Rattle.curve.specs.Shape.{Shaped}
-use Rattle.curve.specs.Price.{tenthPrice, demandOf}
-use Rattle.curve.specs.declared.Curve.{Curve}
-use Rattle.curve.proofs.Prices.{curve-falls, price-most}
 use Rattle.market.specs.Bracket.{Under, Reaches}
 use Rattle.market.specs.Stop.{StopsAt, LevelBetween}
 use Rattle.market.specs.declared.bracket.PriceBracket.{PriceBracket}
@@ -40,36 +36,37 @@ total-found d o falling x within supplied past =
 pub below-upto : (o : Offers) (price below reach : ℕ) → supplyBelow o price ≡ below → reach ≡ supply o price → below ≤ reach
 below-upto o price below reach e f = omega (arith, supplyBelow-supply o price)
 
-module _ (c : Curve) (o : Offers) (s : Shaped c) (b : PriceBracket) (u : Under c o b) (price reach x : ℕ)
+module _ (d : Demand) (o : Offers) (falling : Falling d) (b : PriceBracket) (u : Under d o b) (price reach x : ℕ)
     (below : supplyBelow o price ≡ b .below) (upto : reach ≡ supply o price)
-    (r : Reaches c price (b .below) (min reach (c .q3)) x x) where
-  reached-supplied : x ≤ supply o (tenthPrice c x)
+    (r : Reaches d price (b .below) (min reach (d .last)) x x) where
+  reached-supplied : x ≤ supply o (d .price x)
   reached-supplied =
       by-order x (b .below)
-      (λ h. subst (λ (k : ℕ). k ≤ supply o (tenthPrice c k)) (le-antisymm (r .start) h) (u .supplied))
-      (λ h. supplied-at c o price x (omega (arith, r .end)) (r .met h))
+      (λ h. subst (λ (k : ℕ). k ≤ supply o (d .price k)) (le-antisymm (r .start) h) (u .supplied))
+      (λ h. supplied-at d o price x (omega (arith, r .end)) (r .met h))
 
   pub reached-all : reach ≤ x → price < 1000000
-      → Under c o (record { from = price + 1; below = reach; cap = b .cap; over = b .over })
+      → Under d o (record { from = price + 1; below = reach; cap = b .cap; over = b .over })
   reached-all h l =
       let e : x ≡ reach = le-antisymm (omega (arith, r .end)) h in
-      under-over c o b price reach (u .high) l upto (omega (arith, r .end)) (rw e at reached-supplied)
+      under-over d o b price reach (u .high) l upto (omega (arith, r .end)) (rw e at reached-supplied)
 
-  module _ (most : price ≤ 1000000) (stop : price < 1000000 → x < reach) where
+  module _ (capped : d .price 0 ≤ 1000000) (most : price ≤ 1000000) (stop : price < 1000000 → x < reach) where
     highest : reach ≤ x → 1000000 ≤ price
     highest h = le-unless 1000000 price (λ l. omega (arith, stop l))
 
-    past-reached : x < c .q3 → supply o (tenthPrice c (suc x)) ≤ x
+    past-reached : x < d .last → supply o (d .price (suc x)) ≤ x
+    unfolding Falling
     past-reached l =
         by-order reach x
-        (λ h. le-trans (supply-mono o _ price (omega (arith, price-most c s (suc x), s .price-most, highest h))) (omega arith))
+        (λ h. le-trans (supply-mono o _ price (omega (arith, falling 0 (suc x) (omega arith) l, capped, highest h))) (omega arith))
         (λ h. le-trans (supply-supplyBelow o _ price (r .past (omega arith))) (omega (arith, r .start)))
 
-    reached-total : x ≡ clearedTotal (demandOf c) o
+    reached-total : x ≡ clearedTotal d o
     reached-total =
-        total-found (demandOf c) o (curve-falls c s) x (omega (arith, r .end)) reached-supplied past-reached
+        total-found d o falling x (omega (arith, r .end)) reached-supplied past-reached
 
-    pub reached-stops : (l : Level) → LevelBetween x price (b .below) reach l → StopsAt o (clearedTotal (demandOf c) o) l
+    pub reached-stops : (l : Level) → LevelBetween x price (b .below) reach l → StopsAt o (clearedTotal d o) l
     unfolding levelAmount
     reached-stops l p =
         subst (λ (k : ℕ). StopsAt o k l) reached-total

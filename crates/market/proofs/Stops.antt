@@ -1,18 +1,22 @@
--- The test of which `stopLevel` is the largest price that passes: no more than x is offered strictly below it.
+-- The level at which a total stops. Its price, `stopLevel`, is the largest that passes a test: no more than x is offered strictly
+-- below it.
 --
 -- In order: the test; what is offered strictly below a price; the test is closed downward; so no more than x is offered
--- strictly below the level at which x stops; a price that passes while the next one fails is that level.
+-- strictly below the level at which x stops; a price that passes while the next one fails is that level; there is one
+-- level at which x stops.
 -- Assumes nothing.
-use mathlib.Core.Path.{_≡_, ap, _∙_}
+use mathlib.Core.Path.{_≡_, sym, ap, _∙_}
 use mathlib.Core.Bool.{Bool}
 use Prim.Native.Nat.{ℕ, suc, _-_, _≤_, _<_}
 use native.Mathlib.Omega.{arith}
 use lib.Dec.{leb}
 use borrow.Author.Tests.{le-leb, lt-leb, leb-true}
 use Rattle.laws.proofs.Largests.{Closed, largest-passes, largest-found}
-use Rattle.auction.specs.Offers.{Offers, supply, supplyBelow}
+use Rattle.auction.specs.Offers.{Offers, supply, supplyBelow, levelSum}
+use Rattle.auction.specs.Shares.{levelAmount}
 use Rattle.auction.proofs.Supply.{supplyBelow-zero, supplyBelow-suc, supplyBelow-mono}
-use Rattle.market.specs.Stop.{stopLevel}
+use Rattle.market.specs.Stop.{stopLevel, StopsAt}
+use Rattle.market.specs.declared.level.Level.{Level}
 
 abbrev pub stops : Offers → ℕ → ℕ → Bool
 stops o x p = leb (supplyBelow o p) x
@@ -39,3 +43,17 @@ stop-found o x m l below at =
     largest-found (stops o x) 1000000 m (stops-closed o x 1000000) l
     (λ h. le-leb _ x below)
     (λ h. lt-leb (supplyBelow o (suc m)) x (omega (arith, at h, supplyBelow-suc o m)))
+
+-- two levels at which x stops are the same
+pub stops-alone : (o : Offers) (x : ℕ) (l m : Level) → StopsAt o x l → StopsAt o x m → l ≡ m
+stops-alone o x l m s t = λ i.
+    record {
+      total = (s .total ∙ sym (t .total)) i;
+      price = priced i;
+      amount = (s .amount ∙ ap (levelAmount o x) priced ∙ sym (t .amount)) i;
+      sum = (s .sum ∙ ap (levelSum o) priced ∙ sym (t .sum)) i;
+      reach = (s .reach ∙ ap (supply o) priced ∙ sym (t .reach)) i;
+    }
+  where
+    priced : l .price ≡ m .price
+    priced = s .price ∙ sym (t .price)

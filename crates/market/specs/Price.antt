@@ -1,12 +1,11 @@
--- The clearing price by the level at which the total stops.
+-- The clearing price by the level at which the total stops, against any demand.
 -- Assumes nothing.
 use Prim.Native.Nat.{ℕ}
 use mathlib.Core.Bool.{cond}
 use mathlib.Core.Option.{Option, none, some}
 use lib.Dec.{eqb, ltb}
 use Rattle.laws.specs.Largest.{lesser}
-use Rattle.curve.specs.Price.{tenthPrice}
-use Rattle.curve.specs.declared.Curve.{Curve}
+use Rattle.auction.specs.Offers.{Demand}
 use Rattle.market.specs.declared.level.Level.{Level}
 use Rattle.market.specs.declared.price.ClearingPrice.{ClearingPrice}
 use Rattle.market.specs.declared.price.ClearingPrice.the-variants.{Price, NoPrice}
@@ -21,6 +20,6 @@ abbrev pub levelPrice : Level → Option ℕ
 levelPrice l = cond (ltb (l .total) (l .reach)) (some (l .price)) none
 
 -- no price where the total is 0; else the lesser of the curve price at the total and the level's price, if that is there
-unfoldable pub priceAt : Curve → Level → ClearingPrice
-priceAt c l =
-    cond (eqb (l .total) 0) NoPrice (asPrice (some (lesser (tenthPrice c (l .total)) (levelPrice l))))
+unfoldable pub priceAt : Demand → Level → ClearingPrice
+priceAt d l =
+    cond (eqb (l .total) 0) NoPrice (asPrice (some (lesser (d .price (l .total)) (levelPrice l))))

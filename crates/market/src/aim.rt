@@ -1,6 +1,7 @@
 // Where to look next for the price at which the total stops. All of it is guesses: any price inside a bracket would do.
 use crate::bracket::PriceBracket;
 use curve::Curve;
+use numbers::excess;
 ghost use Prim.Native.Nat.{_≤_, _<_};
 ghost use Rattle.curve.specs.Shape.{Shaped};
 
@@ -32,13 +33,6 @@ pub(crate) fn tenths_at(c: Curve, price: u32) -> u32
     along(p2.0 - price, p2.0, c.q2, c.q3)
 }
 
-// What a quantity lacks of another.
-fn lacking(has: u32, wants: u32) -> u32
-    ensures { λ r. ⌜ r ≤ wants ⌝ }
-{
-    if has < wants { wants - has } else { 0 }
-}
-
 // A price inside a bracket: its middle, or where offers and curve would meet if both ran straight from end to end.
 pub(crate) fn aim(c: Curve, b: PriceBracket, middle: bool) -> u32
     requires { ⌜ Shaped c × (b .from < b .cap) × (b .cap ≤ 1000000) ⌝ }
@@ -48,8 +42,8 @@ pub(crate) fn aim(c: Curve, b: PriceBracket, middle: bool) -> u32
     if middle {
         return b.from + width / 2;
     }
-    let short = lacking(b.below, tenths_at(c, b.from)) as u64;
-    let long = lacking(tenths_at(c, b.cap), b.over) as u64;
+    let short = excess(tenths_at(c, b.from), b.below) as u64;
+    let long = excess(b.over, tenths_at(c, b.cap)) as u64;
     let step = width as u64 * short / (short + long + 1);
     if step < width as u64 {
         b.from + step as u32
@@ -63,5 +57,5 @@ pub(crate) fn aim(c: Curve, b: PriceBracket, middle: bool) -> u32
 pub(crate) fn close(c: Curve, b: PriceBracket, few: u32) -> bool
     requires { ⌜ Shaped c ⌝ }
 {
-    lacking(b.below, b.over) <= few || lacking(b.below, tenths_at(c, b.from)) <= few
+    excess(b.over, b.below) <= few || excess(tenths_at(c, b.from), b.below) <= few
 }

@@ -1,19 +1,21 @@
 // Prices between which the total stops.
 use crate::aim::aim;
 use crate::aim::close;
+use crate::supply::last_price;
 use crate::supply::supply_at;
 use curve::Curve;
 use curve::tenth_price;
 ghost use mathlib.Core.Path.{_≡_};
 ghost use mathlib.Core.Bool.{true};
 ghost use Prim.Native.Nat.{_≤_, _<_};
+ghost use lib.ListN.{length};
 ghost use Rattle.curve.specs.Shape.{Shaped};
-ghost use Rattle.curve.specs.Price.{tenthPrice};
+ghost use Rattle.curve.specs.Price.{tenthPrice, demandOf};
 ghost use Rattle.market.specs.Rows.{RowLists, listed};
-ghost use Rattle.market.specs.Bracket.{Under, Narrower};
+ghost use Rattle.market.specs.Bracket.{Under, Narrower, Lowered};
 
-// A price, with what is offered strictly below it, all of which clears; and a price from which the curve does not buy all that
-// is offered, with how much that is.
+// A price, with what is offered strictly below it, all of which clears; and a price up to which the total is looked for, with
+// how much is offered up to it.
 pub struct PriceBracket {
     pub from: u32,
     pub below: u32,
@@ -42,9 +44,9 @@ pub(crate) fn narrowed(
     b: PriceBracket,
     price: u32,
 ) -> PriceBracket
-    requires { ⌜ Shaped c × RowLists (now prices) (now quantities) n × Under c (listed (now prices) (now quantities) n) b ⌝ }
+    requires { ⌜ Shaped c × RowLists (now prices) (now quantities) n × Under (demandOf c) (listed (now prices) (now quantities) n) b ⌝ }
     requires { ⌜ (b .from ≤ price) × (price < b .cap) ⌝ }
-    ensures { λ r. ⌜ Under c (listed (now (prices .entry)) (now (quantities .entry)) n) r × Narrower b r ⌝ }
+    ensures { λ r. ⌜ Under (demandOf c) (listed (now (prices .entry)) (now (quantities .entry)) n) r × Narrower b r ⌝ }
 {
     let offered = supply_at(prices, quantities, n, price);
     if bought(c, offered, price) {
@@ -69,7 +71,25 @@ fn as_before(b: PriceBracket, old: PriceBracket) -> bool {
     b.below == old.below && b.over == old.over
 }
 
-// A bracket narrowed until the total stops close over its lower end, or until two prices in turn have told nothing.
+// A bracket whose upper end, where the last price told nothing, is the highest price of a row up to it: no less is offered up to
+// there.
+fn lowered(prices: &[u32], n: usize, b: PriceBracket, idle: bool) -> PriceBracket
+    requires { ⌜ (n ≤ length (now prices)) × (b .from ≤ b .cap) ⌝ }
+    ensures { λ r. ⌜ Lowered b r ⌝ }
+{
+    if !idle {
+        return b;
+    }
+    PriceBracket {
+        from: b.from,
+        below: b.below,
+        cap: last_price(prices, n, b.from, b.cap),
+        over: b.over,
+    }
+}
+
+// A bracket narrowed until the total stops close over its lower end, or until a price has told nothing and the next price of an
+// offer is the one to try. Where a price has told nothing from over, offers may lie far below it, and the upper end goes there.
 pub(crate) fn narrow(
     c: Curve,
     prices: &[u32],
@@ -78,23 +98,21 @@ pub(crate) fn narrow(
     b: PriceBracket,
     few: u32,
 ) -> PriceBracket
-    requires { ⌜ Shaped c × RowLists (now prices) (now quantities) n × Under c (listed (now prices) (now quantities) n) b ⌝ }
-    ensures { λ r. ⌜ Under c (listed (now (prices .entry)) (now (quantities .entry)) n) r × (b .from ≤ r .from) ⌝ }
+    requires { ⌜ Shaped c × RowLists (now prices) (now quantities) n × Under (demandOf c) (listed (now prices) (now quantities) n) b ⌝ }
+    ensures { λ r. ⌜ Under (demandOf c) (listed (now (prices .entry)) (now (quantities .entry)) n) r × (b .from ≤ r .from) ⌝ }
 {
     let mut at = b;
-    let mut middle = true;
-    let mut idle = false;
+    let mut middle = false;
     while at.from < at.cap {
         if close(c, at, few) {
             return at;
         }
-        let next = narrowed(c, prices, quantities, n, at, aim(c, at, middle || idle));
-        let same = as_before(next, at);
-        if idle && same {
+        let next = narrowed(c, prices, quantities, n, at, aim(c, at, middle));
+        let idle = as_before(next, at);
+        if idle && at.from < next.from {
             return next;
         }
-        at = next;
-        idle = same;
+        at = lowered(prices, n, next, idle);
         middle = !middle;
     }
     at

@@ -6,6 +6,7 @@ use units::CentsPerMwDay;
 ghost use mathlib.Core.Path.{_≡_};
 ghost use Prim.Native.Nat.{_≤_};
 ghost use Rattle.curve.specs.Shape.{Shaped};
+ghost use Rattle.curve.specs.Price.{demandOf};
 ghost use Rattle.market.specs.Price.{priceAt};
 
 // What a clearing says of its price. Where nothing clears there is none, and none is no number.
@@ -17,7 +18,7 @@ pub enum ClearingPrice {
 // The lesser of the curve price at the total and the price of the level at which it stops, where that level has more.
 pub fn clearing_price(c: Curve, level: Level) -> ClearingPrice
     requires { ⌜ Shaped c × (level .total ≤ c .q3) ⌝ }
-    ensures { λ r. ⌜ r ≡ priceAt c level ⌝ }
+    ensures { λ r. ⌜ r ≡ priceAt (demandOf c) level ⌝ }
 {
     if level.total == 0 {
         return ClearingPrice::NoPrice;

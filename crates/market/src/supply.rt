@@ -1,8 +1,9 @@
-// What is offered at a price or below, and the next price at which something is.
+// What is offered at a price or below, and the next and the last price at which something is.
+use numbers::lesser;
 use std::num::wrapping_sub_u32;
 ghost use mathlib.Core.Path.{_≡_};
 ghost use mathlib.Core.Bool.{cond};
-ghost use Prim.Native.Nat.{min, _≤_};
+ghost use Prim.Native.Nat.{_≤_};
 ghost use lib.Dec.{leb};
 ghost use lib.ListN.{length};
 ghost use Rattle.auction.specs.Offers.{supply};
@@ -28,13 +29,6 @@ pub fn supply_at(prices: &[u32], quantities: &[u32], n: usize, limit: u32) -> u3
     sum
 }
 
-// The lesser of two numbers.
-pub(crate) fn lesser(a: u32, b: u32) -> u32
-    ensures { λ r. ⌜ r ≡ min a b ⌝ }
-{
-    if b < a { b } else { a }
-}
-
 // The lowest price of a row at `from` or over it, or 1,000,000. The difference to a price below `from` wraps round to more
 // than any other, so that this loop runs in lanes too.
 pub(crate) fn next_price(prices: &[u32], n: usize, from: u32) -> u32
@@ -46,4 +40,16 @@ pub(crate) fn next_price(prices: &[u32], n: usize, from: u32) -> u32
         step = lesser(step, wrapping_sub_u32(prices[row], from));
     }
     from + step
+}
+
+// The highest price of a row up to `top`, or `from`. The difference to a price over `top` wraps round too.
+pub(crate) fn last_price(prices: &[u32], n: usize, from: u32, top: u32) -> u32
+    requires { ⌜ (n ≤ length (now prices)) × (from ≤ top) ⌝ }
+    ensures { λ r. ⌜ (from ≤ r) × (r ≤ top) ⌝ }
+{
+    let mut step = top - from;
+    for row in 0..n {
+        step = lesser(step, wrapping_sub_u32(top, prices[row]));
+    }
+    top - step
 }

@@ -4,11 +4,11 @@ use crate::bracket::PriceBracket;
 use crate::bracket::narrow;
 use crate::bracket::narrowed;
 use crate::level::Level;
-use crate::supply::lesser;
 use crate::supply::next_price;
 use crate::supply::supply_at;
 use curve::Curve;
 use curve::tenth_price;
+use numbers::lesser;
 ghost use Prim.Native.Nat.{_≤_, _<_};
 ghost use Rattle.auction.specs.Clearing.{clearedTotal};
 ghost use Rattle.curve.specs.Shape.{Shaped};
@@ -32,7 +32,7 @@ fn inside(guess: u32, low: u32, high: u32) -> u32
 // The largest quantity from `below` to `top` at which the curve asks the price or more, or `below`.
 fn reached(c: Curve, price: u32, below: u32, top: u32) -> u32
     requires { ⌜ Shaped c × (below ≤ top) × (top ≤ c .q3) ⌝ }
-    ensures { λ r. ⌜ Reaches c price below top r r ⌝ }
+    ensures { λ r. ⌜ Reaches (demandOf c) price below top r r ⌝ }
 {
     let guess = tenths_at(c, price);
     let mut low = below;

@@ -49,13 +49,13 @@ module _ (prices quantities stamps resources : List ℕ) (n : ℕ) where
 
   -- the total, the price by the level and the amounts shared out are a sale of the columns
   pub sold-columns : (c : Curve) (x : ℕ) (l : Level) (q : ClearingPrice) (before after : List ℕ)
-      → RowLists prices quantities n → x ≡ clearedTotal (demandOf c) few → StopsAt few x l → q ≡ priceAt c l
+      → RowLists prices quantities n → x ≡ clearedTotal (demandOf c) few → StopsAt few x l → q ≡ priceAt (demandOf c) l
       → SharedOut all (l .total) before after
       → SoldColumns c all before (record { total = x; price = q }) after
   sold-columns c x l q before after rows e s f shared =
       record {
         quantity = e ∙ total-listed c;
-        quote = f ∙ price-agrees c few l (rows .cheap) (subst (λ (y : ℕ). StopsAt few y l) e s) ∙ ap asPrice (price-listed c);
+        quote = f ∙ price-agrees (demandOf c) few l (rows .cheap) (subst (λ (y : ℕ). StopsAt few y l) e s) ∙ ap asPrice (price-listed c);
         amounts = subst (λ (y : ℕ). SharedOut all y before after) (s .total) shared;
       }
 

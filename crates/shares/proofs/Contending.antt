@@ -13,9 +13,9 @@ use lib.ListN.{getD}
 use lib.Dec.{ltb, eqb}
 use borrow.Author.Tests.{eqb-true, eqb-false}
 use Rattle.laws.specs.Sum.{countWhere}
+use Rattle.laws.specs.Orders.{byKey, thenBy}
 use Rattle.laws.proofs.Cases.{by-test}
 use Rattle.laws.proofs.Counts.{countWhere-within}
-use Rattle.laws.proofs.Orders.{byKey, thenBy}
 use Rattle.laws.proofs.Keys.{thenBy-rest, thenBy-halves}
 use Rattle.auction.specs.Offers.{Offers}
 use Rattle.auction.specs.Shares.{weighted, shareDown, remainder, spareTenths, ahead, rank, cleared}

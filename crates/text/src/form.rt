@@ -3,10 +3,10 @@
 // In a form `#` stands for a number, and each takes the next one. `~`, `$` and `&` show that number with one, two or three
 // digits behind a point and leave it to be taken. `[a|b|c]` takes the next number too, and shows `a` for 0, `b` for 1, `c` for
 // 2; a `#` that is not shown takes its number all the same, so that a form has one list of numbers.
-use crate::least;
 use crate::put_byte;
 use crate::put_decimal;
 use crate::put_number;
+use numbers::lesser_size;
 ghost use Prim.Native.Nat.{_+_, _≤_, _<_};
 ghost use lib.ListN.{length};
 ghost use Rattle.io.specs.Counts.{Counts};
@@ -16,7 +16,7 @@ ghost use Rattle.io.specs.Counts.{Counts};
 pub fn put_form(out: &mut [u8], at: usize, form: &[u8], numbers: &[u64]) -> usize
     ensures { λ r. ⌜ Counts r (now (out .exit)) ⌝ }
 {
-    let mut place = least(at, out.len());
+    let mut place = lesser_size(at, out.len());
     let mut used = 0;
     let mut chosen = 0;
     let mut passed = 0;

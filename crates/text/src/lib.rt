@@ -9,8 +9,8 @@ mod number;
 pub use form::put_form;
 pub use number::put_decimal;
 pub use number::put_number;
-ghost use mathlib.Core.Path.{_≡_};
-ghost use Prim.Native.Nat.{_-_, _≤_, min};
+use numbers::excess_size;
+use numbers::lesser_size;
 ghost use mathlib.Core.List.{[], _∷_};
 ghost use Rattle.text.specs.Put.{Written, rightText};
 
@@ -44,8 +44,8 @@ pub fn put_byte(out: &mut [u8], at: usize, byte: u8) -> usize
 pub fn put_right(out: &mut [u8], at: usize, bytes: &[u8], width: usize, fill: u8) -> usize
     ensures { λ r. ⌜ Written (now (out .entry)) at (rightText width fill (now (bytes .entry))) (now (out .exit)) r ⌝ }
 {
-    let gap = less(width, bytes.len());
-    let mut place = least(at, out.len());
+    let gap = excess_size(width, bytes.len());
+    let mut place = lesser_size(at, out.len());
     if gap + bytes.len() > out.len() - place {
         return place;
     }
@@ -55,17 +55,4 @@ pub fn put_right(out: &mut [u8], at: usize, bytes: &[u8], width: usize, fill: u8
         i += 1;
     }
     put_bytes(out, place, bytes)
-}
-
-// By how much `a` is over `b`: 0 where it isn't.
-fn less(a: usize, b: usize) -> usize
-    ensures { λ r. ⌜ r ≡ a - b ⌝ }
-{
-    if a < b { 0 } else { a - b }
-}
-
-fn least(a: usize, b: usize) -> usize
-    ensures { λ r. ⌜ (r ≡ min a b) × (r ≤ b) ⌝ }
-{
-    if a < b { a } else { b }
 }

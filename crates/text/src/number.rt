@@ -1,8 +1,8 @@
 // Numbers as text, in decimal digits.
-use crate::least;
 use crate::put_byte;
 use crate::put_bytes;
 use crate::put_right;
+use numbers::lesser_size;
 ghost use mathlib.Core.Path.{_≡_};
 ghost use Prim.Native.Nat.{_^_, _≤_, _<_, min};
 ghost use Rattle.text.specs.Put.{Written, rightText};
@@ -20,7 +20,7 @@ pub fn put_number(out: &mut [u8], at: usize, n: u64) -> usize
 pub fn put_decimal(out: &mut [u8], at: usize, n: u64, places: usize) -> usize
     ensures { λ r. ⌜ Written (now (out .entry)) at (decimalText (min places 19) n) (now (out .exit)) r ⌝ }
 {
-    let p = least(places, 19);
+    let p = lesser_size(places, 19);
     let unit = power(p);
     let mut text = [0u8; 41];
     let point = put_number(&mut text, 0, n / unit);

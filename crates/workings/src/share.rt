@@ -1,8 +1,10 @@
 // A row's share of its price level.
 use market::level::supply_below;
 use market::supply::supply_at;
+use numbers::excess;
+use numbers::lesser;
 ghost use mathlib.Core.Path.{_≡_};
-ghost use Prim.Native.Nat.{ℕ, _-_, _<_, min};
+ghost use Prim.Native.Nat.{ℕ, _<_};
 ghost use lib.ListN.{getD};
 ghost use Rattle.market.specs.Rows.{RowLists, listed};
 ghost use Rattle.workings.specs.Share.{LevelAt, shareAt, rowShareAt};
@@ -27,19 +29,6 @@ pub struct Received {
     pub sum: u32,
 }
 
-// By how much a is over b: 0 where it isn't.
-fn less(a: u32, b: u32) -> u32
-    ensures { λ r. ⌜ r ≡ a - b ⌝ }
-{
-    if a < b { 0 } else { a - b }
-}
-
-fn least(a: u32, b: u32) -> u32
-    ensures { λ r. ⌜ r ≡ min a b ⌝ }
-{
-    if a < b { a } else { b }
-}
-
 // What the level at a price receives of x, and what is offered at it.
 fn level_at(prices: &[u32], quantities: &[u32], n: usize, x: u32, price: u32) -> Received
     requires { ⌜ RowLists (now prices) (now quantities) n ⌝ }
@@ -48,7 +37,7 @@ fn level_at(prices: &[u32], quantities: &[u32], n: usize, x: u32, price: u32) ->
     let below = supply_below(prices, quantities, n, price);
     let sum = supply_at(prices, quantities, n, price) - below;
     Received {
-        amount: least(less(x, below), sum),
+        amount: lesser(excess(x, below), sum),
         sum,
     }
 }

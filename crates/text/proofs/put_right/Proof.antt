@@ -18,11 +18,11 @@ Inv-loop out₀ at bytes width fill gap place₀ i₀ out place i =
 abbrev μ-loop : tie.MeasureT-loop
 μ-loop out₀ at bytes width fill gap place₀ i₀ out place i = gap - i
 
-less-requires : tie.Need-less-requires Inv-loop μ-loop
-less-requires c κs = tt
+excess-size-requires : tie.Need-excess-size-requires Inv-loop μ-loop
+excess-size-requires c κs = tt
 
-least-requires : tie.Need-least-requires Inv-loop μ-loop
-least-requires c κs = tt
+lesser-size-requires : tie.Need-lesser-size-requires Inv-loop μ-loop
+lesser-size-requires c κs = tt
 
 add-if1 : tie.Need-add-if1 Inv-loop μ-loop
 add-if1 c = search needs
@@ -37,7 +37,7 @@ returns c =
     written-past _ _ _ (omega arith) (omega arith)
 
 loop-holds : tie.Need-loop-holds Inv-loop μ-loop
-loop-holds c = (search needs, search needs, written-none _ _ (c .before .least .ensures .1))
+loop-holds c = (search needs, search needs, written-none _ _ (omega (arith, c .before .lesser-size .ensures)))
 
 put-byte-requires : tie.Need-put-byte-requires Inv-loop μ-loop
 put-byte-requires c κs = tt
@@ -62,7 +62,7 @@ same-length c = search needs
 returns-2 : tie.Need-returns-2 Inv-loop μ-loop
 returns-2 c =
     let l = c .before .before .before .before .before .loop in
-    written-clamped _ _ _ (c .before .before .before .before .before .before .before .least .ensures .0)
+    written-clamped _ _ _ (c .before .before .before .before .before .before .before .lesser-size .ensures)
     (written-right _ _ _ _ _ (l .i) (omega arith) (omega arith) (l .inv .2) (c .before .before .put-bytes .ensures))
 
 pub put-right-spec : {M : Type 1} → statement M
@@ -71,8 +71,8 @@ put-right-spec =
     (tie.spec
     Inv-loop
     μ-loop
-    less-requires
-    least-requires
+    excess-size-requires
+    lesser-size-requires
     add-if1
     sub-if1
     returns

@@ -19,8 +19,8 @@ returns c = search needs
 tenths-at-requires : tie.Need-tenths-at-requires
 tenths-at-requires c κs = search needs
 
-lacking-requires : tie.Need-lacking-requires
-lacking-requires c κs = search needs
+excess-requires : tie.Need-excess-requires
+excess-requires c κs = search needs
 
 cast-short : tie.Need-cast-short
 cast-short c = search needs
@@ -28,8 +28,8 @@ cast-short c = search needs
 tenths-at-requires-2 : tie.Need-tenths-at-requires-2
 tenths-at-requires-2 c κs = search needs
 
-lacking-requires-2 : tie.Need-lacking-requires-2
-lacking-requires-2 c κs = search needs
+excess-requires-2 : tie.Need-excess-requires-2
+excess-requires-2 c κs = search needs
 
 cast-long : tie.Need-cast-long
 cast-long c = search needs
@@ -40,7 +40,7 @@ cast-step c = search needs
 mul-step : tie.Need-mul-step
 mul-step c =
     let b = c .before .before .before .before .before .before .args .b in
-    let short = c .before .before .lacking .result in
+    let short = c .before .before .excess .result in
     omega (
       arith,
       mul-le-mul {n₁ = b .cap - b .from} {m₁ = short} {n₂ = 4294967295} {m₂ = 4294967295} (omega arith) (omega arith),
@@ -78,10 +78,10 @@ aim-spec =
     add-result
     returns
     tenths-at-requires
-    lacking-requires
+    excess-requires
     cast-short
     tenths-at-requires-2
-    lacking-requires-2
+    excess-requires-2
     cast-long
     cast-step
     mul-step

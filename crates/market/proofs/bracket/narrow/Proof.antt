@@ -1,18 +1,21 @@
 -- `market::bracket::narrow` narrows a bracket. The loop's invariant: it is a bracket still, and no lower.
 -- Assumes nothing.
 use Prim.Native.Nat.{_-_, _≤_}
+use Rattle.curve.specs.Price.{demandOf}
 use Rattle.market.specs.Bracket.{Under}
 use Rattle.market.specs.Rows.{listed}
+use Rattle.market.proofs.Narrowing.{under-lowered}
+use native.Mathlib.Omega.{arith}
 use borrow.Author.Needs.{needs}
 use Rattle.market.proofs.bracket.narrow.Statement.{statement}
 use Rattle.market.proofs.bracket.narrow.Tie as tie
 
 abbrev Inv-loop : tie.InvT-loop
-Inv-loop c prices quantities n few at₀ middle₀ idle₀ at middle idle =
-    Under c (listed prices quantities n) at × (at₀ .from ≤ at .from)
+Inv-loop c prices quantities n few at₀ middle₀ at middle =
+    Under (demandOf c) (listed prices quantities n) at × (at₀ .from ≤ at .from)
 
 abbrev μ-loop : tie.MeasureT-loop
-μ-loop c prices quantities n few at₀ middle₀ idle₀ at middle idle = at .cap - at .from
+μ-loop c prices quantities n few at₀ middle₀ at middle = at .cap - at .from
 
 loop-holds : tie.Need-loop-holds Inv-loop μ-loop
 loop-holds c = search needs
@@ -35,11 +38,19 @@ as-before-requires c κs = search needs
 returns-2 : tie.Need-returns-2 Inv-loop μ-loop
 returns-2 c = search needs
 
+lowered-requires : tie.Need-lowered-requires Inv-loop μ-loop
+lowered-requires c κs = search needs
+
 loop-less : tie.Need-loop-less Inv-loop μ-loop
 loop-less c = search needs
 
 loop-again : tie.Need-loop-again Inv-loop μ-loop
-loop-again c = search needs
+loop-again c =
+    let looked = c .before .before .before in
+    let kept = looked .before .before .before .before .before .before .loop .inv .1 in (
+      under-lowered _ _ _ _ (looked .narrowed .ensures .0) (c .lowered .ensures),
+      omega (arith, kept, looked .narrowed .ensures .1 .from, c .lowered .ensures .from),
+    )
 
 returns-3 : tie.Need-returns-3 Inv-loop μ-loop
 returns-3 c = search needs
@@ -57,6 +68,7 @@ narrow-spec =
     narrowed-requires
     as-before-requires
     returns-2
+    lowered-requires
     loop-less
     loop-again
     returns-3)

@@ -2,6 +2,7 @@
 -- Assumes nothing.
 use native.Mathlib.Nat.{le-of-eq}
 use native.Mathlib.Omega.{arith}
+use Rattle.curve.specs.Price.{demandOf}
 use Rattle.market.proofs.Narrowing.{supplied-at, under-over}
 use borrow.Author.Needs.{needs}
 use Rattle.market.proofs.bracket.narrowed.Statement.{statement}
@@ -20,9 +21,10 @@ returns : tie.Need-returns
 returns c =
     let start = c .before .before .before .before .before in
     let offered = c .before .before .supply-at .ensures .0 in
+    let d = demandOf (start .args .c) in
     let meets = c .before .bought .ensures (c .if1 .taken) in (
-      under-over _ _ (start .args .b) (start .args .price) _ (start .pre .0 .2 .high) (omega arith) offered (meets .0)
-          (supplied-at _ _ (start .args .price) _ (le-of-eq offered) (meets .1)),
+      under-over d _ (start .args .b) (start .args .price) _ (start .pre .0 .2 .high) (omega arith) offered (meets .0)
+          (supplied-at d _ (start .args .price) _ (le-of-eq offered) (meets .1)),
       record { from = omega arith; ordered = omega arith; less = omega arith },
     )
 

@@ -5,8 +5,8 @@ use Prim.Native.Nat.{ℕ, _≤_, _<_, min}
 use native.Mathlib.Omega.{arith}
 use borrow.Author.Needs.{needs}
 use borrow.Author.Tests.{eq-eqb, ne-eqb, lt-ltb, le-ltb}
-use Rattle.curve.specs.Price.{tenthPrice}
-use Rattle.curve.specs.declared.Curve.{Curve}
+use Rattle.auction.specs.Offers.{Demand}
+use Rattle.curve.specs.Price.{demandOf}
 use Rattle.market.specs.Price.{priceAt}
 use Rattle.market.specs.declared.level.Level.{Level}
 use Rattle.market.specs.declared.price.ClearingPrice.the-variants.{Price}
@@ -14,16 +14,16 @@ use Rattle.market.proofs.price.clearing_price.Statement.{statement}
 use Rattle.market.proofs.price.clearing_price.Tie as tie
 
 -- the level has more than the total takes, and its price is the lesser or not
-by-level : (c : Curve) (l : Level) (p : ℕ) → (l .total ≡ 0 → ⊥) → l .total < l .reach
-    → p ≡ min (tenthPrice c (l .total)) (l .price) → Price (record { 0 = p }) ≡ priceAt c l
+by-level : (d : Demand) (l : Level) (p : ℕ) → (l .total ≡ 0 → ⊥) → l .total < l .reach
+    → p ≡ min (d .price (l .total)) (l .price) → Price (record { 0 = p }) ≡ priceAt d l
 unfolding priceAt
-by-level c l p z h e = simp (ne-eqb _ _ z, lt-ltb _ _ h) (ap (λ (q : ℕ). Price (record { 0 = q })) e)
+by-level d l p z h e = simp (ne-eqb _ _ z, lt-ltb _ _ h) (ap (λ (q : ℕ). Price (record { 0 = q })) e)
 
 -- it has no more
-by-curve : (c : Curve) (l : Level) (p : ℕ) → (l .total ≡ 0 → ⊥) → l .reach ≤ l .total
-    → p ≡ tenthPrice c (l .total) → Price (record { 0 = p }) ≡ priceAt c l
+by-curve : (d : Demand) (l : Level) (p : ℕ) → (l .total ≡ 0 → ⊥) → l .reach ≤ l .total
+    → p ≡ d .price (l .total) → Price (record { 0 = p }) ≡ priceAt d l
 unfolding priceAt
-by-curve c l p z h e = simp (ne-eqb _ _ z, le-ltb _ _ h) (ap (λ (q : ℕ). Price (record { 0 = q })) e)
+by-curve d l p z h e = simp (ne-eqb _ _ z, le-ltb _ _ h) (ap (λ (q : ℕ). Price (record { 0 = q })) e)
 
 returns : tie.Need-returns
 unfolding priceAt
@@ -35,17 +35,17 @@ tenth-price-requires c κs = search needs
 returns-2 : tie.Need-returns-2
 returns-2 c =
     let a = c .before .before .before .before .before .before .before .before .args in
-    by-level (a .c) (a .level) _ (omega arith) (omega arith) (omega arith)
+    by-level (demandOf (a .c)) (a .level) _ (omega arith) (omega arith) (omega arith)
 
 returns-3 : tie.Need-returns-3
 returns-3 c =
     let a = c .before .before .before .before .before .before .before .before .args in
-    by-level (a .c) (a .level) _ (omega arith) (omega arith) (omega arith)
+    by-level (demandOf (a .c)) (a .level) _ (omega arith) (omega arith) (omega arith)
 
 returns-4 : tie.Need-returns-4
 returns-4 c =
     let a = c .before .before .before .before .before .args in
-    by-curve (a .c) (a .level) _ (omega arith) (omega arith) (omega arith)
+    by-curve (demandOf (a .c)) (a .level) _ (omega arith) (omega arith) (omega arith)
 
 pub clearing-price-spec : {M : Type 1} → statement M
 clearing-price-spec =

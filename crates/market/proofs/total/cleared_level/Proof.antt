@@ -8,6 +8,8 @@ use native.Mathlib.Omega.{arith}
 use borrow.Author.Needs.{needs}
 use borrow.Author.Tests.{eqb-true, eqb-false}
 use Rattle.auction.specs.Offers.{Offers, supplyBelow}
+use Rattle.curve.specs.Price.{demandOf, tenthPrice}
+use Rattle.curve.proofs.Prices.{curve-falls, price-most}
 use Rattle.market.specs.Bracket.{Under}
 use Rattle.market.specs.Rows.{listed}
 use Rattle.market.proofs.Narrowing.{under-whole, below-next}
@@ -16,7 +18,7 @@ use Rattle.market.proofs.total.cleared_level.Statement.{statement}
 use Rattle.market.proofs.total.cleared_level.Tie as tie
 
 abbrev Inv-loop : tie.InvT-loop
-Inv-loop c prices quantities n at₀ few₀ at few = Under c (listed prices quantities n) at
+Inv-loop c prices quantities n at₀ few₀ at few = Under (demandOf c) (listed prices quantities n) at
 
 abbrev μ-loop : tie.MeasureT-loop
 μ-loop c prices quantities n at₀ few₀ at few = 1000000 - at .from
@@ -25,13 +27,17 @@ abbrev μ-loop : tie.MeasureT-loop
 abbrev offers : tie.Start Inv-loop μ-loop → Offers
 offers c = listed (c .args .prices .now) (c .args .quantities .now) (c .args .n)
 
+-- the curve asks no more than 1,000,000
+capped : (c : tie.Start Inv-loop μ-loop) → tenthPrice (c .args .c) 0 ≤ 1000000
+capped c = omega (arith, price-most (c .args .c) (c .pre .0) 0, c .pre .0 .price-most)
+
 -- what is offered below the next price, and that it is no more than what is offered up to it
 below : (c : tie.After-next-price Inv-loop μ-loop)
     → supplyBelow (offers (c .before .before .before .before .before .before .before .before .before)) (c .next-price .result)
     ≡ c .before .narrow .result .below
 below c =
     let a = c .before .before .before .before .before .before .before .before .before .args in
-    below-next (a .c) (a .prices .now) (a .quantities .now) (a .n) (c .before .narrow .result) (c .next-price .result)
+    below-next (demandOf (a .c)) (a .prices .now) (a .quantities .now) (a .n) (c .before .narrow .result) (c .next-price .result)
     (c .before .narrow .ensures .0) (c .next-price .ensures)
 
 upto : (c : tie.After-supply-at Inv-loop μ-loop) → c .before .before .narrow .result .below ≤ c .supply-at .result
@@ -89,10 +95,10 @@ returns : tie.Need-returns Inv-loop μ-loop
 returns c =
     let at = c .before .before in
     let start = at .before .before .before .before .before .before .before .before .before .before .before .before in (
-      reached-stops (start .args .c) (offers start) (start .pre .0) _ (at .before .before .before .before .narrow .ensures .0) _ _ _
+      reached-stops (demandOf (start .args .c)) (offers start) (curve-falls _ (start .pre .0)) _ (at .before .before .before .before .narrow .ensures .0) _ _ _
           (below (at .before .before .before)) (at .before .before .supply-at .ensures .0)
           (rw (at .before .lesser .ensures) at (at .reached .ensures))
-          (at .before .before .before .next-price .ensures .high) (stop c) _ (c .level .ensures),
+          (capped start) (at .before .before .before .next-price .ensures .high) (stop c) _ (c .level .ensures),
       omega (arith, c .level .ensures .total),
     )
 
@@ -114,7 +120,7 @@ loop-again : tie.Need-loop-again Inv-loop μ-loop
 loop-again c =
     let at = c .before .before in
     let start = at .before .before .before .before .before .before .before .before .before .before .before .before in
-    reached-all (start .args .c) (offers start) (start .pre .0) _ (at .before .before .before .before .narrow .ensures .0) _ _ _
+    reached-all (demandOf (start .args .c)) (offers start) (curve-falls _ (start .pre .0)) _ (at .before .before .before .before .narrow .ensures .0) _ _ _
     (below (at .before .before .before)) (at .before .before .supply-at .ensures .0)
     (rw (at .before .lesser .ensures) at (at .reached .ensures))
     (c .before .if1 .left) (under-most c)

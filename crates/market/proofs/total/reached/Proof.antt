@@ -1,6 +1,7 @@
 -- `market::total::reached` is the largest quantity at which the curve asks a price or more.
 -- Assumes nothing.
 use Prim.Native.Nat.{_-_}
+use Rattle.curve.specs.Price.{demandOf}
 use Rattle.market.specs.Bracket.{Reaches}
 use Rattle.market.proofs.Narrowing.{reaches-under, reaches-met}
 use native.Mathlib.Omega.{arith}
@@ -9,7 +10,7 @@ use Rattle.market.proofs.total.reached.Statement.{statement}
 use Rattle.market.proofs.total.reached.Tie as tie
 
 abbrev Inv-loop : tie.InvT-loop
-Inv-loop c price below top guess low₀ high₀ low high = Reaches c price below top low high
+Inv-loop c price below top guess low₀ high₀ low high = Reaches (demandOf c) price below top low high
 
 abbrev μ-loop : tie.MeasureT-loop
 μ-loop c price below top guess low₀ high₀ low high = high - low

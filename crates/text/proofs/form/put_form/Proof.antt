@@ -16,8 +16,8 @@ Inv-loop out₀ at form numbers place₀ used₀ chosen₀ passed₀ i₀ i-end 
 abbrev μ-loop : tie.MeasureT-loop
 μ-loop out₀ at form numbers place₀ used₀ chosen₀ passed₀ i₀ i-end out place used chosen passed i = i-end - i
 
-least-requires : tie.Need-least-requires Inv-loop μ-loop
-least-requires c κs = search needs
+lesser-size-requires : tie.Need-lesser-size-requires Inv-loop μ-loop
+lesser-size-requires c κs = search needs
 
 loop-holds : tie.Need-loop-holds Inv-loop μ-loop
 loop-holds c = search needs
@@ -64,7 +64,7 @@ put-form-spec =
     (tie.spec
     Inv-loop
     μ-loop
-    least-requires
+    lesser-size-requires
     loop-holds
     shared-slice-read-mark
     number-at-requires

@@ -10,8 +10,8 @@ use Rattle.text.proofs.Numbers.{decimal-parts}
 use Rattle.text.proofs.number.put_decimal.Statement.{statement}
 use Rattle.text.proofs.number.put_decimal.Tie as tie
 
-least-requires : tie.Need-least-requires
-least-requires c κs = tt
+lesser-size-requires : tie.Need-lesser-size-requires
+lesser-size-requires c κs = tt
 
 power-requires : tie.Need-power-requires
 power-requires c κs = search needs
@@ -55,14 +55,14 @@ same-length c = search needs
 -- the local buffer, once the parts were put, holds the text
 composed :
     (c : tie.After-put-filled) →
-    let least = c .before .before .before .before .before .before .before .before .before in
-    take (c .put-filled .result) (c .put-filled .last .0) ≡ decimalText (least .least .result) (least .before .before .args .n)
+    let lesser = c .before .before .before .before .before .before .before .before .before in
+    take (c .put-filled .result) (c .put-filled .last .0) ≡ decimalText (lesser .lesser-size .result) (lesser .before .before .args .n)
 composed c =
     let byte = c .before .before .before in
     let number = byte .before .before .before in
     let power = number .before .before in
     decimal-parts _ _ (power .power .result) _
-    (power .before .least .ensures .1)
+    (omega (arith, power .before .lesser-size .ensures))
     (omega arith)
     (power .power .ensures .0)
     (le-refl 41)
@@ -73,14 +73,14 @@ composed c =
 returns : tie.Need-returns
 returns c =
     let filled = c .before .before .before .before .before .before in
-    let least = filled .before .before .before .before .before .before .before .before .before in
-    rw (← least .least .ensures .0, ← composed filled) (c .before .before .put-bytes .ensures)
+    let lesser = filled .before .before .before .before .before .before .before .before .before in
+    rw (← lesser .lesser-size .ensures, ← composed filled) (c .before .before .put-bytes .ensures)
 
 pub put-decimal-spec : {M : Type 1} → statement M
 put-decimal-spec =
     tie.close
     (tie.spec
-    least-requires
+    lesser-size-requires
     power-requires
     slice-aggregate-put-number
     div-put-number

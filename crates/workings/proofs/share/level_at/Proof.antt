@@ -14,16 +14,16 @@ supply-at-requires c κs = search needs
 sub-sum : tie.Need-sub-sum
 sub-sum c = below-reach _ 0 _ _ _ (c .before .supply-below .ensures .0) (c .supply-at .ensures .0)
 
-less-requires : tie.Need-less-requires
-less-requires c κs = search needs
+excess-requires : tie.Need-excess-requires
+excess-requires c κs = search needs
 
-least-requires : tie.Need-least-requires
-least-requires c κs = search needs
+lesser-requires : tie.Need-lesser-requires
+lesser-requires c κs = search needs
 
 returns : tie.Need-returns
 returns c =
     let s = c .before .before in
-    level-received _ _ _ _ _ (s .before .supply-below .ensures .0) (s .supply-at .ensures .0) _ _ (c .before .less .ensures) (c .least .ensures)
+    level-received _ _ _ _ _ (s .before .supply-below .ensures .0) (s .supply-at .ensures .0) _ _ (c .before .excess .ensures) (c .lesser .ensures)
 
 pub level-at-spec : {M : Type 1} → statement M
 level-at-spec =
@@ -32,6 +32,6 @@ level-at-spec =
     supply-below-requires
     supply-at-requires
     sub-sum
-    less-requires
-    least-requires
+    excess-requires
+    lesser-requires
     returns)
