@@ -18,15 +18,16 @@ use Rattle.auction.proofs.Best.{byPrice-best}
 use Rattle.auction.proofs.Cleared.{cleared-byPrice}
 use Rattle.auction.proofs.Divided.{cleared-divided, divided-agree}
 use Rattle.market.specs.Price.{asPrice}
-use Rattle.layout.specs.Read.{bookParameters}
-use Rattle.book.specs.Faults.{firstFault}
-use Rattle.values.specs.declared.Verdict.the-variants.{Passed}
+use Rattle.layout.specs.Read.{contentsOf}
 use Rattle.sale.specs.Auction.{offersOf, demand, total, price, rowCleared}
 use Rattle.call.specs.Answer.{Outcome}
 use Rattle.sale.specs.Payment.{clearingOf}
 use Rattle.sale.specs.declared.Clearing.{Clearing}
 use Rattle.call.specs.declared.Answer.the-variants.{Cleared as Answer·Cleared}
-use Rattle.call.proofs.Clearables.{accepted-falls, accepted-proper}
+use Rattle.book.proofs.Accepted.{accepted-clearable}
+use Rattle.sale.proofs.Ground.{clearable-falls, clearable-proper}
+use Rattle.values.specs.Contents.{Contents}
+use Rattle.limits.specs.Clearable.{Clearable}
 use Rattle.call.proofs.Outcomes.{cleared-accepted, cleared-clearing, cleared-row}
 
 -- amounts that agree in every row clear by price alike
@@ -42,43 +43,49 @@ byPrice-agree d o x y e h =
 
 module _ (b cleared₀ committed₀ : List ℕ) (k : Clearing) (cleared₁ committed₁ : List ℕ)
     (out : Outcome b cleared₀ committed₀ (Answer·Cleared k) cleared₁ committed₁) where
-  -- the curve that the book's parameters make
+  -- what the book says, the curve that its parameters select, and its offers
+  abbrev said : Contents
+  said = contentsOf b
+
   abbrev asked : Demand
-  asked = demand b (bookParameters b)
+  asked = demand said
+
+  abbrev offered : Offers
+  offered = offersOf (said .offers)
 
   -- the numbers in the cleared buffer
   abbrev amounts : ℕ → ℕ
   amounts row = getD cleared₁ row 0
 
-  accepted : firstFault b ≡ Passed
-  accepted = cleared-accepted b cleared₀ committed₀ k cleared₁ committed₁ out
+  clearable : Clearable said
+  clearable = accepted-clearable b (cleared-accepted b cleared₀ committed₀ k cleared₁ committed₁ out)
 
   -- DEMAND 2. The cleared total is the largest quantity that offers priced at or under the curve there can supply.
-  pub call-total : IsTotal asked (offersOf b) (k .total)
+  pub call-total : IsTotal asked offered (k .total)
   unfolding total clearingOf
-  call-total = rw (ap (λ (c : Clearing). c .total) (cleared-clearing b cleared₀ committed₀ k cleared₁ committed₁ out)) (total-is-largest asked (offersOf b))
+  call-total = rw (ap (λ (c : Clearing). c .total) (cleared-clearing b cleared₀ committed₀ k cleared₁ committed₁ out)) (total-is-largest asked offered)
 
   -- The price is the clearing price, or its absence.
-  pub call-price : k .price ≡ asPrice (clearingPrice asked (offersOf b))
+  pub call-price : k .price ≡ asPrice (clearingPrice asked offered)
   unfolding price clearingOf
   call-price = ap (λ (c : Clearing). c .price) (cleared-clearing b cleared₀ committed₀ k cleared₁ committed₁ out)
 
   -- DEMAND 2. Every offer under the price clears in full, every offer over it nothing, and the amounts add up to the total.
-  pub call-by-price : ByPrice asked (offersOf b) amounts
+  pub call-by-price : ByPrice asked offered amounts
   unfolding rowCleared total offersOf
   call-by-price =
-      byPrice-agree asked (offersOf b) (cleared (offersOf b) (clearedTotal asked (offersOf b))) amounts
+      byPrice-agree asked offered (cleared offered (clearedTotal asked offered)) amounts
       (λ i l. cleared-row b cleared₀ committed₀ k cleared₁ committed₁ out i l)
-      (cleared-byPrice asked (offersOf b) (accepted-falls b accepted) (accepted-proper b accepted))
+      (cleared-byPrice asked offered (clearable-falls said clearable) (clearable-proper said clearable))
 
   -- DEMAND 3. No other choice of amounts leaves more surplus, and none with equal surplus clears more.
-  pub call-best : Best asked (offersOf b) amounts
-  call-best = byPrice-best asked (offersOf b) amounts (accepted-falls b accepted) call-by-price
+  pub call-best : Best asked offered amounts
+  call-best = byPrice-best asked offered amounts (clearable-falls said clearable) call-by-price
 
   -- DEMAND 3. Offers tied at one price divide what that price sells by the stated shares.
-  pub call-shares : Divided (offersOf b) (clearedTotal asked (offersOf b)) amounts
+  pub call-shares : Divided offered (clearedTotal asked offered) amounts
   unfolding rowCleared total offersOf
   call-shares =
-      divided-agree (offersOf b) (clearedTotal asked (offersOf b)) (cleared (offersOf b) (clearedTotal asked (offersOf b))) amounts
+      divided-agree offered (clearedTotal asked offered) (cleared offered (clearedTotal asked offered)) amounts
       (λ i l. cleared-row b cleared₀ committed₀ k cleared₁ committed₁ out i l)
-      (cleared-divided (offersOf b) (clearedTotal asked (offersOf b)) (accepted-proper b accepted))
+      (cleared-divided offered (clearedTotal asked offered) (clearable-proper said clearable))

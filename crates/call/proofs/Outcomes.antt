@@ -10,12 +10,11 @@ use lib.ListN.{length, getD}
 use Rattle.laws.proofs.Fills.{getD-filled}
 use Rattle.values.specs.declared.Verdict.{Verdict}
 use Rattle.values.specs.declared.Verdict.the-variants.{Passed, Refused}
-use Rattle.layout.specs.Form.{offerCount}
-use Rattle.layout.specs.Read.{bookParameters}
+use Rattle.layout.specs.Read.{contentsOf}
 use Rattle.book.specs.Faults.{firstFault}
 use Rattle.sale.specs.Auction.{rowCleared, rowCommitted}
 use Rattle.call.specs.Answer.{Outcome, answerBy, bufferBy, callFault}
-use Rattle.sale.specs.Payment.{clearingOf}
+use Rattle.sale.specs.Payment.{clearingOf, clearedList, committedList}
 use Rattle.sale.specs.declared.Clearing.{Clearing}
 use Rattle.call.specs.declared.Answer.{Answer}
 use Rattle.call.specs.declared.Answer.the-variants.{Cleared as Answer·Cleared, Refused as Answer·Refused}
@@ -49,7 +48,7 @@ buffer-refused (Refused m p) before after number place e = refl
 module _ (b cleared committed : List ℕ) (k : Clearing) (cleared′ committed′ : List ℕ)
     (out : Outcome b cleared committed (Answer·Cleared k) cleared′ committed′) where
   no-fault : callFault b (length cleared) (length committed) ≡ Passed
-  no-fault = answer-passed (callFault b (length cleared) (length committed)) (clearingOf b (bookParameters b)) k (out .answered)
+  no-fault = answer-passed (callFault b (length cleared) (length committed)) (clearingOf (contentsOf b)) k (out .answered)
 
   callable : Callable b (length cleared) (length committed)
   callable = passed-callable b (length cleared) (length committed) no-fault
@@ -59,21 +58,23 @@ module _ (b cleared committed : List ℕ) (k : Clearing) (cleared′ committed�
   cleared-accepted = callable .accepted
 
   -- the clearing is the book's
-  pub cleared-clearing : k ≡ clearingOf b (bookParameters b)
+  pub cleared-clearing : k ≡ clearingOf (contentsOf b)
   cleared-clearing =
-      answer-clearing (callFault b (length cleared) (length committed)) (clearingOf b (bookParameters b)) k (out .answered)
+      answer-clearing (callFault b (length cleared) (length committed)) (clearingOf (contentsOf b)) k (out .answered)
 
   -- each row's cleared tenths stand in the first buffer
-  pub cleared-row : (row : ℕ) → row < offerCount b → getD cleared′ row 0 ≡ rowCleared b (bookParameters b) row
+  pub cleared-row : (row : ℕ) → row < length (contentsOf b .offers) → getD cleared′ row 0 ≡ rowCleared (contentsOf b) row
+  unfolding clearedList
   cleared-row row l =
       ap (λ (xs : List ℕ). getD xs row 0) (out .cleared-holds ∙ buffer-passed _ _ _ no-fault)
-      ∙ getD-filled (rowCleared b (bookParameters b)) (offerCount b) cleared row 0 (callable .cleared-long) l
+      ∙ getD-filled (rowCleared (contentsOf b)) (length (contentsOf b .offers)) cleared row 0 (callable .cleared-long) l
 
   -- each row's committed tenths stand in the second
-  pub committed-row : (row : ℕ) → row < offerCount b → getD committed′ row 0 ≡ rowCommitted b (bookParameters b) row
+  pub committed-row : (row : ℕ) → row < length (contentsOf b .offers) → getD committed′ row 0 ≡ rowCommitted (contentsOf b) row
+  unfolding committedList
   committed-row row l =
       ap (λ (xs : List ℕ). getD xs row 0) (out .committed-holds ∙ buffer-passed _ _ _ no-fault)
-      ∙ getD-filled (rowCommitted b (bookParameters b)) (offerCount b) committed row 0 (callable .committed-long) l
+      ∙ getD-filled (rowCommitted (contentsOf b)) (length (contentsOf b .offers)) committed row 0 (callable .committed-long) l
 
 -- ---- a refusal
 
@@ -82,7 +83,7 @@ module _ (b cleared committed : List ℕ) (number place : ℕ) (cleared′ commi
   -- the number and the place are those of the first fault of the call
   pub refused-first : callFault b (length cleared) (length committed) ≡ Refused number place
   refused-first =
-      answer-refused (callFault b (length cleared) (length committed)) (clearingOf b (bookParameters b)) number place (out .answered)
+      answer-refused (callFault b (length cleared) (length committed)) (clearingOf (contentsOf b)) number place (out .answered)
 
   -- both buffers hold what they held before
   pub refused-kept : (cleared′ ≡ cleared) × (committed′ ≡ committed)

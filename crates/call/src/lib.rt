@@ -1,130 +1,22 @@
 // The call: a book of bytes and two result buffers go in; cleared megawatts, the price and the payments come out.
+mod rows;
+
+use crate::rows::FEW;
+use crate::rows::clear_few;
+use crate::rows::clear_many;
 use book::opened;
-use book::rows::read_rows;
 use layout::form::lengths;
 use sale::Clearing;
-use sale::payment::clearing;
 use values::Verdict;
-use values::and_then;
-use values::head::Parameters;
 ghost use mathlib.Core.Path.{_≡_};
-ghost use Prim.Native.Nat.{_≤_};
 ghost use Rattle.values.specs.declared.Verdict.the-variants.{Passed};
 ghost use Rattle.layout.specs.Form.{lengthFault};
-ghost use Rattle.columns.specs.Columns.{columnsOf, Blank};
-ghost use Rattle.book.specs.Opening.{Opened};
-ghost use Rattle.call.specs.Answer.{Outcome, answerOf, bufferFault};
+ghost use Rattle.call.specs.Answer.{Outcome, answerOf};
 
 // What a call answers: the clearing, or the number and the place of the refusal and nothing else.
 pub enum Answer {
     Cleared(Clearing),
     Refused(u32, u32),
-}
-
-// 9: the result buffer that is too short, the cleared one first.
-fn buffer_fault(offers: usize, cleared: usize, committed: usize) -> Verdict
-    ensures { λ r. ⌜ r ≡ bufferFault offers cleared committed ⌝ }
-{
-    if cleared < offers {
-        return Verdict::Refused(9, 1);
-    }
-    if committed < offers {
-        return Verdict::Refused(9, 2);
-    }
-    Verdict::Passed
-}
-
-// Clears a book whose parameters and number of rows have passed. Its rows are read once, into columns that are blank.
-fn clear_rows(
-    book: &[u8],
-    p: Parameters,
-    rows: u32,
-    prices: &mut [u32],
-    quantities: &mut [u32],
-    leasts: &mut [u32],
-    resources: &mut [u32],
-    stamps: &mut [u64],
-    cleared: &mut [u32],
-    committed: &mut [u32],
-) -> Answer
-    requires { ⌜ Opened (now book) p rows ⌝ }
-    requires { ⌜ Blank rows (columnsOf (now prices) (now quantities) (now leasts) (now resources) (now stamps)) ⌝ }
-    ensures { λ r. ⌜ Outcome (now (book .entry)) (now (cleared .entry)) (now (committed .entry)) r (now (cleared .exit)) (now (committed .exit)) ⌝ }
-{
-    let n = rows as usize;
-    let short = buffer_fault(n, cleared.len(), committed.len());
-    let found = read_rows(
-        book, 1, rows, true, prices, quantities, leasts, resources, stamps,
-    );
-    if let Verdict::Refused(number, place) = and_then(found, short) {
-        return Answer::Refused(number, place);
-    }
-    Answer::Cleared(clearing(
-        p, n, prices, quantities, leasts, resources, stamps, cleared, committed,
-    ))
-}
-
-// The most rows of a book that is cleared in small columns: one block of them.
-const FEW: u32 = 15;
-
-// Clears a book of few rows.
-fn clear_few(
-    book: &[u8],
-    p: Parameters,
-    rows: u32,
-    cleared: &mut [u32],
-    committed: &mut [u32],
-) -> Answer
-    requires { ⌜ Opened (now book) p rows × (rows ≤ 15) ⌝ }
-    ensures { λ r. ⌜ Outcome (now (book .entry)) (now (cleared .entry)) (now (committed .entry)) r (now (cleared .exit)) (now (committed .exit)) ⌝ }
-{
-    let mut prices = [0u32; 15];
-    let mut quantities = [0u32; 15];
-    let mut leasts = [0u32; 15];
-    let mut resources = [0u32; 15];
-    let mut stamps = [0u64; 15];
-    clear_rows(
-        book,
-        p,
-        rows,
-        &mut prices,
-        &mut quantities,
-        &mut leasts,
-        &mut resources,
-        &mut stamps,
-        cleared,
-        committed,
-    )
-}
-
-// Clears a book of any number of rows.
-fn clear_many(
-    book: &[u8],
-    p: Parameters,
-    rows: u32,
-    cleared: &mut [u32],
-    committed: &mut [u32],
-) -> Answer
-    requires { ⌜ Opened (now book) p rows ⌝ }
-    ensures { λ r. ⌜ Outcome (now (book .entry)) (now (cleared .entry)) (now (committed .entry)) r (now (cleared .exit)) (now (committed .exit)) ⌝ }
-{
-    let mut prices = [0u32; 600];
-    let mut quantities = [0u32; 600];
-    let mut leasts = [0u32; 600];
-    let mut resources = [0u32; 600];
-    let mut stamps = [0u64; 600];
-    clear_rows(
-        book,
-        p,
-        rows,
-        &mut prices,
-        &mut quantities,
-        &mut leasts,
-        &mut resources,
-        &mut stamps,
-        cleared,
-        committed,
-    )
 }
 
 // Clears a book whose length holds. What it says before its rows is decoded once.

@@ -2,8 +2,8 @@
 -- Assumes nothing.
 use mathlib.Core.Path.{refl, sym, _∙_}
 use borrow.Author.Needs.{needs}
-use Rattle.book.proofs.Stages.{stated-length}
-use Rattle.call.proofs.Calls.{fault-stated, outcome-refused}
+use Rattle.book.proofs.Stages.{before-length}
+use Rattle.call.proofs.Calls.{fault-before, outcome-refused}
 use Rattle.call.proofs.clear.Statement.{statement}
 use Rattle.call.proofs.clear.Tie as tie
 
@@ -16,7 +16,7 @@ enum-known-number c = search needs
 returns : tie.Need-returns
 returns c =
     let refused = sym (c .before .before .before .lengths .ensures) ∙ c .before .number .given .1 in
-    outcome-refused _ _ _ _ _ (fault-stated _ _ _ _ _ _ refl (stated-length _ refused))
+    outcome-refused _ _ _ _ _ (fault-before _ _ _ _ _ _ refl (before-length _ refused))
 
 enum-told : tie.Need-enum-told
 enum-told c = search needs

@@ -2,28 +2,42 @@
 -- Assumes nothing.
 use mathlib.Core.Path.{sym, _∙_}
 use borrow.Author.Needs.{needs}
-use Rattle.call.proofs.Calls.{fault-stated, outcome-refused}
+use Rattle.book.specs.Opening.{Opened}
+use Rattle.call.proofs.Calls.{fault-before, outcome-refused}
 use Rattle.call.proofs.clear_measured.Statement.{statement}
 use Rattle.call.proofs.clear_measured.Tie as tie
 
-stated-fault-requires : tie.Need-stated-fault-requires
-stated-fault-requires c κs = search needs
+opened-requires : tie.Need-opened-requires
+opened-requires c κs = search needs
 
-enum-known-number : tie.Need-enum-known-number
-enum-known-number c = search needs
+enum-known-fault : tie.Need-enum-known-fault
+enum-known-fault c = search needs
 
 returns : tie.Need-returns
 returns c =
     outcome-refused _ _ _ _ _
-    (fault-stated _ _ _ _ _ _ (c .before .before .before .stated-fault .ensures) (c .before .number .given .1))
+    (fault-before _ _ _ _ _ _ (c .before .before .before .opened .ensures .fault) (c .before .fault .given .1))
 
 enum-told : tie.Need-enum-told
 enum-told c = search needs
 
-clear-stated-requires : tie.Need-clear-stated-requires
-clear-stated-requires c κs =
-    let told = c .before .before in
-    sym (told .before .before .stated-fault .ensures) ∙ told .enum-told .given .1
+-- past the test the parameters and the number of rows have passed
+passed : (c : tie.After-enum-told) →
+    let head = c .before .before .opened .result in
+    Opened (c .before .before .before .before .before .before .args .book .now) (head .parameters) (head .rows)
+passed c =
+    let told = c .before .before .opened .ensures in
+    record {
+      passed = sym (told .fault) ∙ c .enum-told .given .1;
+      parameters = told .parameters;
+      rows = told .rows;
+    }
+
+clear-few-requires : tie.Need-clear-few-requires
+clear-few-requires c κs = (passed (c .before .before .before .before), search needs)
+
+clear-many-requires : tie.Need-clear-many-requires
+clear-many-requires c κs = passed (c .before .before .before .before)
 
 same-length : tie.Need-same-length
 same-length c = search needs
@@ -34,15 +48,28 @@ same-length-2 c = search needs
 returns-2 : tie.Need-returns-2
 returns-2 c = search needs
 
+same-length-3 : tie.Need-same-length-3
+same-length-3 c = search needs
+
+same-length-4 : tie.Need-same-length-4
+same-length-4 c = search needs
+
+returns-3 : tie.Need-returns-3
+returns-3 c = search needs
+
 pub clear-measured-spec : {M : Type 1} → statement M
 clear-measured-spec =
     tie.close
     (tie.spec
-    stated-fault-requires
-    enum-known-number
+    opened-requires
+    enum-known-fault
     returns
     enum-told
-    clear-stated-requires
+    clear-few-requires
+    clear-many-requires
     same-length
     same-length-2
-    returns-2)
+    returns-2
+    same-length-3
+    same-length-4
+    returns-3)

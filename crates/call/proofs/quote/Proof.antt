@@ -4,8 +4,8 @@ use mathlib.Core.Path.{sym, _∙_}
 use native.Mathlib.Omega.{arith}
 use borrow.Author.Needs.{needs}
 use Rattle.laws.proofs.Filling.{length-zeros}
-use Rattle.book.proofs.Stages.{stated-length}
-use Rattle.call.proofs.Calls.{answer-stated, outcome-answer}
+use Rattle.book.proofs.Stages.{before-length}
+use Rattle.call.proofs.Calls.{answer-before, outcome-answer}
 use Rattle.call.proofs.quote.Statement.{statement}
 use Rattle.call.proofs.quote.Tie as tie
 
@@ -17,7 +17,7 @@ enum-known-number c = search needs
 
 returns : tie.Need-returns
 returns c =
-    answer-stated _ _ _ (stated-length _ (sym (c .before .before .before .lengths .ensures) ∙ c .before .number .given .1))
+    answer-before _ _ _ (before-length _ (sym (c .before .before .before .lengths .ensures) ∙ c .before .number .given .1))
 
 enum-told : tie.Need-enum-told
 enum-told c = search needs

@@ -4,8 +4,8 @@ use mathlib.Core.Path.{sym, _∙_}
 use borrow.Author.Tests.{le-leb, lt-leb}
 use Rattle.values.proofs.Firsts.{andThen-next, andThen-refused, unless-true, unless-false}
 use Rattle.call.specs.Answer.{bufferFault}
-use Rattle.call.proofs.buffer_fault.Statement.{statement}
-use Rattle.call.proofs.buffer_fault.Tie as tie
+use Rattle.call.proofs.rows.buffer_fault.Statement.{statement}
+use Rattle.call.proofs.rows.buffer_fault.Tie as tie
 
 returns : tie.Need-returns
 unfolding bufferFault

@@ -1,0 +1,89 @@
+-- One more offer never raises the price and never lowers the total, read on two calls.
+--
+-- In order: contents with one more offer are an auction with one more; so the totals and the prices of two clearings compare.
+-- Assumes nothing.
+use mathlib.Core.Path.{_≡_, ap, sym, subst₂, _∙_}
+use mathlib.Core.List.{List, [], _∷_, _++_}
+use mathlib.Core.Option.{Option, none, some}
+use Prim.Native.Nat.{ℕ, suc, _≤_, _<_}
+use native.Mathlib.Numerals.{add-one}
+use lib.ListN.{length, length-append, List·getD-append}
+use Rattle.auction.specs.Clearing.{clearedTotal, clearingPrice}
+use Rattle.curve.specs.Price.{demandOf}
+use Rattle.region.specs.Region.{regionCurve}
+use Rattle.values.specs.declared.head.Parameters.{Parameters}
+use Rattle.auction.specs.Demands.{OneMore, NoDearer}
+use Rattle.auction.proofs.OneMore.{one-more-no-dearer}
+use Rattle.values.specs.Values.{held}
+use Rattle.values.specs.Contents.{Contents, noOffer, offerAt}
+use Rattle.values.specs.declared.place.Offer.{Offer}
+use Rattle.units.specs.declared.CentsPerMwDay.{CentsPerMwDay}
+use Rattle.market.specs.Price.{asPrice}
+use Rattle.market.specs.declared.price.ClearingPrice.the-variants.{Price}
+use Rattle.layout.specs.Read.{contentsOf}
+use Rattle.book.proofs.Accepted.{accepted-clearable}
+use Rattle.sale.specs.Auction.{offersOf, demand, total, price}
+use Rattle.sale.specs.Payment.{clearingOf}
+use Rattle.sale.specs.declared.Clearing.{Clearing}
+use Rattle.sale.proofs.Ground.{clearable-falls}
+use Rattle.call.specs.Answer.{Outcome}
+use Rattle.call.specs.Demands.{OneMoreOffer}
+use Rattle.call.specs.declared.Answer.the-variants.{Cleared as Answer·Cleared}
+use Rattle.call.proofs.Outcomes.{cleared-accepted, cleared-clearing}
+
+module _ (c c′ : Contents) (m : OneMoreOffer c c′) where
+  -- a row that was there is there still
+  same-row : (row : ℕ) → row < length (c .offers) → offerAt (c .offers) row ≡ offerAt (c′ .offers) row
+  same-row row l = sym (ap (λ (os : List Offer). offerAt os row) (m .offers) ∙ List·getD-append (c .offers) _ noOffer row l)
+
+  one-row : length (c′ .offers) ≡ suc (length (c .offers))
+  one-row = ap length (m .offers) ∙ length-append (c .offers) (m .more ∷ []) ∙ add-one (length (c .offers))
+
+  offers-more : OneMore (offersOf (c .offers)) (offersOf (c′ .offers))
+  unfolding offersOf
+  offers-more =
+      record {
+        count = one-row;
+        price = λ i l. ap (λ (o : Offer). held (o .price)) (same-row i l);
+        quantity = λ i l. ap (λ (o : Offer). o .quantity) (same-row i l);
+      }
+
+-- a price that is quoted is there
+quoted-there : (x : Option ℕ) (p : CentsPerMwDay) → Price p ≡ asPrice x → x ≡ some (p .0)
+quoted-there none p e = cc
+quoted-there (some q) p e = cc
+
+module _ (b cleared₀ committed₀ : List ℕ) (k : Clearing) (cleared₁ committed₁ : List ℕ)
+    (out : Outcome b cleared₀ committed₀ (Answer·Cleared k) cleared₁ committed₁)
+    (b′ cleared₀′ committed₀′ : List ℕ) (k′ : Clearing) (cleared₁′ committed₁′ : List ℕ)
+    (out′ : Outcome b′ cleared₀′ committed₀′ (Answer·Cleared k′) cleared₁′ committed₁′)
+    (m : OneMoreOffer (contentsOf b) (contentsOf b′)) where
+  dearer : NoDearer (demand (contentsOf b)) (offersOf (contentsOf b .offers)) (offersOf (contentsOf b′ .offers))
+  dearer =
+      one-more-no-dearer _ _ _
+      (clearable-falls (contentsOf b) (accepted-clearable b (cleared-accepted b cleared₀ committed₀ k cleared₁ committed₁ out)))
+      (offers-more (contentsOf b) (contentsOf b′) m)
+
+  abbrev here : k ≡ clearingOf (contentsOf b)
+  here = cleared-clearing b cleared₀ committed₀ k cleared₁ committed₁ out
+
+  abbrev there : k′ ≡ clearingOf (contentsOf b′)
+  there = cleared-clearing b′ cleared₀′ committed₀′ k′ cleared₁′ committed₁′ out′
+
+  -- One more offer never lowers the total.
+  pub call-one-more-total : k .total ≤ k′ .total
+  unfolding clearingOf total
+  call-one-more-total =
+      subst₂ _≤_ (sym (ap (λ (c : Clearing). c .total) here))
+      (ap (λ (p : Parameters). clearedTotal (demandOf (regionCurve p)) (offersOf (contentsOf b′ .offers))) (m .parameters)
+      ∙ sym (ap (λ (c : Clearing). c .total) there))
+      (dearer .total)
+
+  -- And it never raises the price.
+  pub call-one-more : (p q : CentsPerMwDay) → k .price ≡ Price p → k′ .price ≡ Price q → q .0 ≤ p .0
+  unfolding clearingOf price
+  call-one-more p q e f =
+      let low = quoted-there (price (contentsOf b)) p (sym e ∙ ap (λ (c : Clearing). c .price) here) in
+      let high = quoted-there (price (contentsOf b′)) q (sym f ∙ ap (λ (c : Clearing). c .price) there) in
+      dearer .price (p .0) (q .0) low
+      (ap (λ (r : Parameters). clearingPrice (demandOf (regionCurve r)) (offersOf (contentsOf b′ .offers))) (m .parameters) ∙ high)
