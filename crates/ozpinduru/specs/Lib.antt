@@ -1,3 +1,4 @@
 pub mod Export
 pub mod Given
 pub mod Plotted
+pub mod Listed

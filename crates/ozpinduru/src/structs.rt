@@ -62,3 +62,24 @@ pub struct OzpPrice {
     pub number: u32,
     pub place: u32,
 }
+
+// A row of a book.
+#[repr(C)]
+pub struct OzpRow {
+    pub stamp: u64,
+    pub resource: u32,
+    pub seller: u32,
+    pub quantity: u32,
+    pub price: OzpValue,
+    pub block: OzpValue,
+}
+
+// What a book says besides its rows.
+#[repr(C)]
+pub struct OzpContents {
+    pub kind: u32,
+    pub rows: u32,
+    pub number: u32,
+    pub place: u32,
+    pub parameters: OzpParameters,
+}
