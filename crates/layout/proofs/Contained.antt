@@ -14,18 +14,23 @@ use Rattle.values.specs.Contents.{noOffer, offerAt}
 use Rattle.values.specs.declared.place.Offer.{Offer}
 use Rattle.layout.specs.Blocks.{blockOf, rowBytes}
 use Rattle.layout.specs.Form.{offerCount}
-use Rattle.layout.specs.Read.{rowOffers, contentsOf}
+use Rattle.layout.specs.Read.{rowOffer, rowOffers, contentsOf}
 
 module _ (b : List ℕ) (first n : ℕ) where
   pub length-rowOffers : length (rowOffers b first n) ≡ n
   unfolding rowOffers
-  length-rowOffers = length-listOf (λ row. offerOf (rowBytes b first row)) n
+  length-rowOffers = length-listOf (rowOffer b first) n
+
+  -- the offer at a row is the row's own
+  pub offerAt-rowOffers : (row : ℕ) → row < n → offerAt (rowOffers b first n) row ≡ rowOffer b first row
+  unfolding rowOffers
+  offerAt-rowOffers row l = getD-listOf (rowOffer b first) n row noOffer l
 
   -- what a row's own bytes hold is the row's offer
   pub offer-of-row : (row : ℕ) {part : List ℕ} {o : Offer} → row < n → part ≡ rowBytes b first row → o ≡ offerOf part
       → o ≡ offerAt (rowOffers b first n) row
-  unfolding rowOffers
-  offer-of-row row l p e = rw (e, p) (sym (getD-listOf (λ r. offerOf (rowBytes b first r)) n row noOffer l))
+  unfolding rowOffer
+  offer-of-row row l p e = rw (e, p) (sym (offerAt-rowOffers row l))
 
 module _ (b : List ℕ) where
   pub contents-parameters : parametersOf (blockOf b 0) ≡ contentsOf b .parameters
@@ -39,3 +44,8 @@ module _ (b : List ℕ) where
   pub contents-count : offerCount b ≡ length (contentsOf b .offers)
   unfolding contentsOf
   contents-count = sym (length-rowOffers b 1 (offerCount b))
+
+  -- the offer of a row that is there
+  pub contents-offer : (row : ℕ) → row < offerCount b → offerAt (contentsOf b .offers) row ≡ rowOffer b 1 row
+  unfolding contentsOf
+  contents-offer row l = offerAt-rowOffers b 1 (offerCount b) row l

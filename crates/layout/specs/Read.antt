@@ -13,9 +13,12 @@ use Rattle.values.specs.declared.place.Offer.{Offer}
 use Rattle.layout.specs.Blocks.{blockOf, rowBytes}
 use Rattle.layout.specs.Form.{offersSection}
 
--- the offers of n rows, of which the first stands in the block `first`
+-- the offer of a row, where the first row stands in the block `first`, and the offers of n rows
+unfoldable pub rowOffer : List ℕ → ℕ → ℕ → Offer
+rowOffer b first row = offerOf (rowBytes b first row)
+
 unfoldable pub rowOffers : List ℕ → ℕ → ℕ → List Offer
-rowOffers b first n = listOf (λ row. offerOf (rowBytes b first row)) n
+rowOffers b first n = listOf (rowOffer b first) n
 
 -- what a book says: the parameters of block 0, and the offers of their section, row by row
 unfoldable pub contentsOf : List ℕ → Contents

@@ -1,2 +1,6 @@
 pub mod Export
+pub mod Given
 pub mod Plotted
+pub mod Listed
+pub mod Texts
+pub mod Words
