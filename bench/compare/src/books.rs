@@ -17,7 +17,8 @@ pub fn cases() -> Vec<Case> {
     let case = |name, book, target| Case { name, book, target };
     vec![
         case("600 offers, distinct prices", written(&distinct()), 0.5),
-        case("600 offers, prices within 20 cents", written(&close()), 0.6),
+        case("600 within 20 cents", written(&close()), 0.6),
+        case("600 within 20 cents, prices rising", written(&close_rising()), 0.6),
         case("600 all tied", written(&tied()), 0.7),
         case("600 tied, equal quantities", written(&equal()), 0.7),
         case("600 tied, equal, stamps rising", written(&rising()), 0.7),
@@ -55,6 +56,11 @@ fn distinct() -> Vec<Offer> {
 /// The same offers at 21 prices next to each other; the total stops at the nineteenth.
 fn close() -> Vec<Offer> {
     (0..).zip(distinct()).map(|(at, offer): (u32, _)| Offer { price: Some(37_490 + at * 7_919 % 21), ..offer }).collect()
+}
+
+/// The same with the prices in the order of the rows, which a sort finds in order already.
+fn close_rising() -> Vec<Offer> {
+    (0..).zip(close()).map(|(at, offer): (u32, _)| Offer { price: Some(37_490 + at / 29), ..offer }).collect()
 }
 
 /// The same offers at one price, at which not all clear: remainders differ, and the spare tenths go by them.

@@ -9,37 +9,49 @@ use Rattle.market.specs.declared.bracket.PriceBracket.{PriceBracket}
 
 -- the total is no less than what is offered strictly below the bracket
 pub record Under (d : Demand) (o : Offers) (b : PriceBracket) : Type 0 where
+  -- neither end is over the highest price
   pub low : b .from ≤ 1000000
   pub high : b .cap ≤ 1000000
+  -- so much is offered strictly below the lower end
   pub below : b .below ≡ supplyBelow o (b .from)
-  -- the curve reaches so far
+  -- the demand reaches so far
   pub within : b .below ≤ d .last
-  -- and the offers can supply so much at the curve price there
+  -- and the offers can supply so much at its price there
   pub supplied : b .below ≤ supply o (d .price (b .below))
 
 -- a bracket inside another
 pub record Narrower (old new : PriceBracket) : Type 0 where
+  -- its lower end is no lower
   pub from : old .from ≤ new .from
+  -- its ends are in order
   pub ordered : new .from ≤ new .cap
+  -- and closer together
   pub less : new .cap - new .from < old .cap - old .from
 
 -- a bracket with a lower upper end
 pub record Lowered (old new : PriceBracket) : Type 0 where
+  -- its lower end stays, with what is offered below it
   pub from : new .from ≡ old .from
   pub below : new .below ≡ old .below
+  -- its upper end is no lower than that, and no higher than it was
   pub ordered : new .from ≤ new .cap
   pub less : new .cap ≤ old .cap
 
 -- of n prices none lies from one price up to, and without, another
 pub record NoneBefore (prices : List ℕ) (n from to : ℕ) : Type 0 where
+  -- the other is no lower, and not over the highest price
   pub low : from ≤ to
   pub high : to ≤ 1000000
+  -- a row's price that is no lower than the one is no lower than the other
   pub none : (i : ℕ) → i < n → from ≤ getD prices i 0 → to ≤ getD prices i 0
 
--- the largest quantity from `below` to `top` at which the curve asks the price or more, or `below`, lies from `low` to `high`
+-- the largest quantity from `below` to `top` at which the demand asks the price or more, or `below`, lies from `low` to `high`
 pub record Reaches (d : Demand) (price below top low high : ℕ) : Type 0 where
+  -- the four numbers are in order
   pub start : below ≤ low
   pub ordered : low ≤ high
   pub end : high ≤ top
+  -- at `low`, if it is past `below`, the demand asks the price or more
   pub met : below < low → price ≤ d .price low
+  -- one tenth past `high`, if it is before `top`, it asks less
   pub past : high < top → d .price (suc high) < price

@@ -14,7 +14,9 @@ stopLevel o x = largest (λ p. leb (supplyBelow o p) x) 1000000
 
 -- what is known of the level at which a total x stops
 pub record StopsAt (o : Offers) (x : ℕ) (l : Level) : Type 0 where
+  -- the total is x
   pub total : l .total ≡ x
+  -- the level's price is the highest below which no more than x is offered
   pub price : l .price ≡ stopLevel o x
   -- what the level receives of x
   pub amount : l .amount ≡ levelAmount o x (l .price)

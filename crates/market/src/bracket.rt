@@ -102,7 +102,7 @@ pub(crate) fn narrow(
     ensures { λ r. ⌜ Under (demandOf c) (listed (now (prices .entry)) (now (quantities .entry)) n) r × (b .from ≤ r .from) ⌝ }
 {
     let mut at = b;
-    let mut middle = false;
+    let mut middle = true;
     while at.from < at.cap {
         if close(c, at, few) {
             return at;
