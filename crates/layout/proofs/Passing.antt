@@ -1,7 +1,7 @@
 -- What it means for later code that a book passed refusals 1, 2 and 3.
 --
--- In order: a section whose blocks passed; each of the three passed; the book's length, the number of its offers, and how they fit; where a row's block
--- stands; that the row's own bytes are laid out as a used place.
+-- In order: a section whose blocks passed; each of the three passed; the book's length, the number of its offers, and how
+-- they fit; where a row's block stands; that the row's own bytes are laid out as a used place.
 -- Assumes nothing.
 use mathlib.Core.Path.{_≡_}
 use mathlib.Core.Bool.{true}
