@@ -79,8 +79,8 @@ fn used_only(p: &[u8], last: LastBytes, used: bool) -> bool
     used_holds(p, last)
 }
 
-// Whether the used places of a block, its first so many, are laid out as such. Each is a part of the block. All fifteen are gone
-// through, so that the loop has a constant count.
+// Whether the used places of a block, its first so many, are laid out as such. Each is a part of the block. All fifteen are
+// gone through, so that the loop has a constant count.
 fn used_hold(s: &[u8], last: LastBytes, here: usize) -> bool
     requires { ⌜ 512 ≤ length (now s) ⌝ }
     ensures { λ r. ⌜ r ≡ every (λ i. usedOnly last (ltb i here) (placeOf (now (s .entry)) i)) 15 ⌝ }

@@ -1,9 +1,8 @@
 -- `offers_section` reads the number of offers in block 0; the rest of the section is fixed.
 -- Assumes nothing.
-use mathlib.Core.Path.{_≡_}
 use borrow.Author.Needs.{needs}
 use Rattle.layout.specs.Blocks.{blockOf}
-use Rattle.layout.specs.Form.{offerCount, offersLast, ofrs}
+use Rattle.layout.specs.Form.{offersLast, ofrs}
 use Rattle.layout.proofs.section.offers_section.Statement.{statement}
 use Rattle.layout.proofs.section.offers_section.Tie as tie
 
