@@ -7,7 +7,7 @@ use mathlib.Core.Bool.{true, false}
 use mathlib.Core.List.{List}
 use Prim.Native.Nat.{ℕ, _+_, _*_, _≤_, _<_}
 use native.Mathlib.Omega.{arith}
-use lib.ListN.{length, set}
+use lib.ListN.{set}
 use Rattle.laws.proofs.Cases.{by-order}
 use Rattle.laws.proofs.Altered.{sumTo-set, sumTo-set-past, sumTo-exchange}
 use Rattle.block.specs.Bytes.{byte, u16At}

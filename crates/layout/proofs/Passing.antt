@@ -1,7 +1,7 @@
 -- What it means for later code that a book passed refusals 1, 2 and 3.
 --
--- In order: a section whose blocks passed; each of the three passed; the book's length, the number of its offers, and how they fit; where a row's block
--- stands; that the row's own bytes are laid out as a used place.
+-- In order: a section whose blocks passed; each of the three passed; the book's length, the number of its offers, and how
+-- they fit; where a row's block stands; that the row's own bytes are laid out as a used place.
 -- Assumes nothing.
 use mathlib.Core.Path.{_≡_}
 use mathlib.Core.Bool.{true}
@@ -15,7 +15,7 @@ use Rattle.values.proofs.Firsts.{unless-passed, andThen-left, andThen-right, fi
 use Rattle.layout.specs.Blocks.{blockCount, blockOf, rowBytes}
 use Rattle.layout.specs.Section.{blocksFor, rowsHere, usedHolds, rowsHold, blockFault, sectionFault}
 use Rattle.layout.specs.Layout.{headHolds}
-use Rattle.layout.specs.Form.{lengthFault, checkFault, offerCount, offerBytes, offersSection, layoutFault, formFault}
+use Rattle.layout.specs.Form.{lengthFault, checkFault, offerCount, offersLast, offersSection, layoutFault, formFault}
 use Rattle.layout.specs.declared.section.Section.{Section}
 use Rattle.layout.proofs.Holding.{LengthHolds, length-holds, CountHolds, head-holds, rows-hold-used}
 
@@ -73,5 +73,5 @@ module _ (b : List ℕ) (passed : formFault b ≡ Passed) where
   form-passed-row row l = omega (arith, form-passed-blocks)
 
   -- each row's own bytes are laid out as a used place
-  pub form-passed-used : (row : ℕ) → row < offerCount b → usedHolds offerBytes (rowBytes b 1 row) ≡ true
+  pub form-passed-used : (row : ℕ) → row < offerCount b → usedHolds offersLast (rowBytes b 1 row) ≡ true
   form-passed-used = section-passed-used b (offersSection b) section-part

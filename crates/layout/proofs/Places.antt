@@ -1,10 +1,10 @@
 -- The fifteen places of a block hold where the used ones are laid out as such and the bytes from the first unused place on
 -- are zero.
 --
--- In order: tests that imply each other; bytes that are zero, one by one; a place that is all zero; the places of a block.
+-- In order: bytes that are zero, one by one; a place that is all zero; no byte past the last place; the places of a block.
 -- Assumes nothing.
-use mathlib.Core.Path.{_≡_, refl, sym, ap, _∙_}
-use mathlib.Core.Bool.{Bool, true, false, _&&_}
+use mathlib.Core.Path.{_≡_, sym, ap, _∙_}
+use mathlib.Core.Bool.{Bool, true, _&&_}
 use mathlib.Core.List.{List}
 use Prim.Native.Nat.{ℕ, _+_, _-_, _*_, _/_, _%_, _≤_, _<_}
 use native.Mathlib.Nat.{zero-add}
@@ -17,13 +17,9 @@ use Rattle.laws.proofs.Cases.{by-order, and-true, and-left, and-right}
 use Rattle.laws.proofs.Everys.{every-at, every-all}
 use Rattle.block.specs.Bytes.{byte, blank}
 use Rattle.layout.specs.Blocks.{placeOf}
-use Rattle.layout.specs.Section.{usedHolds, placeHolds, placesHold}
+use Rattle.layout.specs.Section.{usedOnly, placeHolds, placesHold}
 use Rattle.layout.specs.declared.section.LastBytes.{LastBytes}
-
-same-test : (s t : Bool) → (s ≡ true → t ≡ true) → (t ≡ true → s ≡ true) → s ≡ t
-same-test true t f g = sym (f refl)
-same-test false true f g = g refl
-same-test false false f g = refl
+use Rattle.layout.proofs.Last.{same-test}
 
 -- zero bytes, one by one
 blank-at : (s : List ℕ) (from n i : ℕ) → blank s from n ≡ true → i < n → byte s (from + i) ≡ 0
@@ -43,25 +39,37 @@ place-byte s i j l = rw (getD-take, getD-drop)
 zero-byte : (p : List ℕ) (i : ℕ) → blank p 0 32 ≡ true → i < 32 → byte p i ≡ 0
 zero-byte p i e l = rw zero-add at (blank-at p 0 32 i e l)
 
+-- past the last of fifteen used places there is no byte to test
+pub rest-none : (s : List ℕ) (here : ℕ) → 15 ≤ here → true ≡ blank s (28 + here * 32) ((15 - here) * 32)
+rest-none s here l = sym (blank-all s (28 + here * 32) ((15 - here) * 32) (λ i k. omega arith))
+
 module _ (last : LastBytes) (s : List ℕ) (here : ℕ) where
-  -- place i holds; it is laid out as a used one; the bytes from the first unused place on are zero
+  -- place i holds; it is laid out as a used one, if it is used; the bytes from the first unused place on are zero
   abbrev holds : ℕ → Bool
   holds i = placeHolds last (ltb i here) (placeOf s i)
 
   abbrev used : ℕ → Bool
-  used i = usedHolds last (placeOf s i)
+  used i = usedOnly last (ltb i here) (placeOf s i)
 
   abbrev rest : Bool
   rest = blank s (28 + here * 32) ((15 - here) * 32)
 
   -- for a place that is used, to hold is to be laid out as such; for one that is not, to be all zero
   holds-used : (i : ℕ) → i < here → holds i ≡ used i
-  unfolding placeHolds
+  unfolding placeHolds usedOnly
   holds-used i l = rw (lt-ltb i here l)
 
   holds-blank : (i : ℕ) → here ≤ i → holds i ≡ blank (placeOf s i) 0 32
   unfolding placeHolds
   holds-blank i l = rw (le-ltb i here l)
+
+  used-past : (i : ℕ) → here ≤ i → used i ≡ true
+  unfolding usedOnly
+  used-past i l = rw (le-ltb i here l)
+
+  -- a place that holds is laid out as a used one, if it is used
+  used-of-holds : (i : ℕ) → holds i ≡ true → used i ≡ true
+  used-of-holds i e = by-order here i (λ h. used-past i h) (λ h. sym (holds-used i h) ∙ e)
 
   -- where all hold, the bytes from the first unused place on are zero
   rest-of-holds : every holds 15 ≡ true → rest ≡ true
@@ -84,27 +92,16 @@ module _ (last : LastBytes) (s : List ℕ) (here : ℕ) where
       rw zero-add
       (place-byte s i j k ∙ ap (byte s) same ∙ blank-at s (28 + here * 32) ((15 - here) * 32) at e (omega arith)))
 
-  -- so all places hold where the used ones are laid out as such and those are zero
-  holds-of-both : every used here ≡ true → rest ≡ true → (i : ℕ) → i < 15 → holds i ≡ true
+  -- so a place holds where it is laid out as a used one, if it is used, and those are zero
+  holds-of-both : every used 15 ≡ true → rest ≡ true → (i : ℕ) → i < 15 → holds i ≡ true
   holds-of-both u e i l =
       by-order here i
       (λ h. holds-blank i h ∙ blank-of-rest e i h l)
-      (λ h. holds-used i h ∙ every-at used here i u h)
+      (λ h. holds-used i h ∙ every-at used 15 i u l)
 
-  used-of-holds : here ≤ 15 → every holds 15 ≡ true → every used here ≡ true
-  used-of-holds few e = every-all used here (λ i l. sym (holds-used i l) ∙ every-at holds 15 i e (omega arith))
-
-  pub places-rest : here ≤ 15 → placesHold last s here ≡ every used here && rest
+  pub places-rest : placesHold last s here ≡ every used 15 && rest
   unfolding placesHold
-  places-rest few =
-      same-test (every holds 15) (every used here && rest)
-      (λ e. and-true _ _ (used-of-holds few e) (rest-of-holds e))
-      (λ e. every-all holds 15 (holds-of-both (and-left _ _ e) (and-right (every used here) _ e)))
-
-  -- where all fifteen places are used, all are laid out as such
-  pub places-full : here ≡ 15 → placesHold last s here ≡ every used 15
-  unfolding placesHold
-  places-full full =
-      same-test (every holds 15) (every used 15)
-      (λ e. every-all used 15 (λ i l. sym (holds-used i (omega arith)) ∙ every-at holds 15 i e l))
-      (λ e. every-all holds 15 (λ i l. holds-used i (omega arith) ∙ every-at used 15 i e l))
+  places-rest =
+      same-test (every holds 15) (every used 15 && rest)
+      (λ e. and-true _ _ (every-all used 15 (λ i l. used-of-holds i (every-at holds 15 i e l))) (rest-of-holds e))
+      (λ e. every-all holds 15 (holds-of-both (and-left _ _ e) (and-right (every used 15) _ e)))

@@ -33,12 +33,12 @@ abbrev pub ofrs : List ℕ
 ofrs = 79 ∷ 70 ∷ 82 ∷ 83 ∷ []
 
 -- the last bytes of an offer in edition 1: bits 0 and 1 of the marks may be set, the other bits and bytes 29-31 are zero
-abbrev pub offerBytes : LastBytes
-offerBytes = record { marks = 3; step = 0; lowest = 0; highest = 0 }
+abbrev pub offersLast : LastBytes
+offersLast = record { marks = 3; step = 0; lowest = 0; highest = 0 }
 
 -- the offers of a book: the letters, from block 1 on, as many as block 0 states, by the rule of edition 1
 abbrev pub offersSection : List ℕ → Section
-offersSection b = record { letters = ofrs; first = 1; number = 1; rows = offerCount b; last = offerBytes }
+offersSection b = record { letters = ofrs; first = 1; number = 1; rows = offerCount b; last = offersLast }
 
 -- 3: the layout, block 0 first, then the offer blocks, lowest first
 unfoldable pub layoutFault : List ℕ → Verdict

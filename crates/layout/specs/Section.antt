@@ -5,7 +5,7 @@
 -- whose blocks are there.
 -- Assumes nothing.
 use Prim.Native.Nat.{ℕ, _+_, _-_, _*_, _/_, _≤_, min}
-use mathlib.Core.Bool.{Bool, cond, _&&_}
+use mathlib.Core.Bool.{Bool, true, cond, _&&_}
 use mathlib.Core.List.{List}
 use lib.ListN.{length}
 use lib.Dec.{eqb, leb, ltb}
@@ -42,6 +42,10 @@ usedHolds last p =
     lastHolds last p
     && (absentIsZero (marked (byte p 28) 0) (u32At p 8)
     && absentIsZero (marked (byte p 28) 1) (u32At p 16))
+
+-- a place of a block, as far as it is used
+unfoldable pub usedOnly : LastBytes → Bool → List ℕ → Bool
+usedOnly last used p = cond used (usedHolds last p) true
 
 -- a place of a block; an unused one is all zero
 unfoldable pub placeHolds : LastBytes → Bool → List ℕ → Bool

@@ -11,16 +11,18 @@ use block::SIZE;
 use block::bytes::is_blank;
 use block::bytes::opens_with;
 use block::bytes::u16_at;
+use block::bytes::u32_at;
 use values::Verdict;
 ghost use mathlib.Core.Path.{_≡_};
 ghost use Prim.Native.Nat.{_≤_};
 ghost use lib.ListN.{length};
+ghost use lib.Dec.{ltb};
 ghost use Rattle.laws.specs.Sum.{every};
 ghost use Rattle.layout.specs.Blocks.{placeOf};
-ghost use Rattle.layout.specs.Section.{lastHolds, usedHolds, placesHold, rowsHold, sectionFault, Fits};
+ghost use Rattle.layout.specs.Section.{lastHolds, usedHolds, usedOnly, placesHold, rowsHold, sectionFault, Fits};
 
-// Whether the last four bytes of a used place follow the rule.
-fn last_holds(p: &[u8], last: LastBytes) -> bool
+// Whether the last four bytes of a used place follow the rule, byte by byte.
+fn bytes_hold(p: &[u8], last: LastBytes) -> bool
     requires { ⌜ 32 ≤ length (now p) ⌝ }
     ensures { λ r. ⌜ r ≡ lastHolds last (now (p .entry)) ⌝ }
 {
@@ -39,6 +41,18 @@ fn last_holds(p: &[u8], last: LastBytes) -> bool
     p[31] == 0
 }
 
+// Whether the last four bytes of a used place follow the rule. Where it admits marks alone, the four as one number are at most
+// the highest marks, which is one test.
+fn last_holds(p: &[u8], last: LastBytes) -> bool
+    requires { ⌜ 32 ≤ length (now p) ⌝ }
+    ensures { λ r. ⌜ r ≡ lastHolds last (now (p .entry)) ⌝ }
+{
+    if last.step as u32 + last.lowest as u32 + last.highest as u32 != 0 {
+        return bytes_hold(p, last);
+    }
+    u32_at(p, 28) <= last.marks as u32
+}
+
 // Whether the last bytes of a used place follow the rule, and a value not given has zero bytes.
 fn used_holds(p: &[u8], last: LastBytes) -> bool
     requires { ⌜ 32 ≤ length (now p) ⌝ }
@@ -54,14 +68,26 @@ fn used_holds(p: &[u8], last: LastBytes) -> bool
     absent_holds(p, 16, marks, 2)
 }
 
-// Whether the first so many places of a block are laid out as used ones. Each is a part of the block.
-fn used_hold(s: &[u8], last: LastBytes, here: usize) -> bool
-    requires { ⌜ (512 ≤ length (now s)) × (here ≤ 15) ⌝ }
-    ensures { λ r. ⌜ r ≡ every (λ i. usedHolds last (placeOf (now (s .entry)) i)) here ⌝ }
+// Whether a place is laid out as a used one, if it is used.
+fn used_only(p: &[u8], last: LastBytes, used: bool) -> bool
+    requires { ⌜ 32 ≤ length (now p) ⌝ }
+    ensures { λ r. ⌜ r ≡ usedOnly last used (now (p .entry)) ⌝ }
 {
-    for i in 0..here {
+    if !used {
+        return true;
+    }
+    used_holds(p, last)
+}
+
+// Whether the used places of a block, its first so many, are laid out as such. Each is a part of the block. All fifteen are
+// gone through, so that the loop has a constant count.
+fn used_hold(s: &[u8], last: LastBytes, here: usize) -> bool
+    requires { ⌜ 512 ≤ length (now s) ⌝ }
+    ensures { λ r. ⌜ r ≡ every (λ i. usedOnly last (ltb i here) (placeOf (now (s .entry)) i)) 15 ⌝ }
+{
+    for i in 0..PLACES {
         let at = PLACES_FROM + i * PLACE_SIZE;
-        if !used_holds(&s[at..at + PLACE_SIZE], last) {
+        if !used_only(&s[at..at + PLACE_SIZE], last, i < here) {
             return false;
         }
     }
@@ -69,16 +95,15 @@ fn used_hold(s: &[u8], last: LastBytes, here: usize) -> bool
 }
 
 // Whether all fifteen places of a block hold, of which the first are used and the bytes from the first unused one on are zero.
-// A block that is full has a call of its own, whose loop has a constant count.
 fn places_hold(s: &[u8], last: LastBytes, here: usize) -> bool
-    requires { ⌜ (512 ≤ length (now s)) × (here ≤ 15) ⌝ }
+    requires { ⌜ 512 ≤ length (now s) ⌝ }
     ensures { λ r. ⌜ r ≡ placesHold last (now (s .entry)) here ⌝ }
 {
-    if here == PLACES {
-        return used_hold(s, last, PLACES);
-    }
     if !used_hold(s, last, here) {
         return false;
+    }
+    if PLACES <= here {
+        return true;
     }
     let from = PLACES_FROM + here * PLACE_SIZE;
     let left = (PLACES - here) * PLACE_SIZE;
@@ -87,7 +112,7 @@ fn places_hold(s: &[u8], last: LastBytes, here: usize) -> bool
 
 // Whether the part is laid out as block number k of a section, with so many rows in it.
 fn rows_hold(s: &[u8], section: Section, k: usize, here: usize) -> bool
-    requires { ⌜ (512 ≤ length (now s)) × (here ≤ 15) ⌝ }
+    requires { ⌜ 512 ≤ length (now s) ⌝ }
     ensures { λ r. ⌜ r ≡ rowsHold section (now (s .entry)) k here ⌝ }
 {
     if !opens_with(s, &section.letters) {

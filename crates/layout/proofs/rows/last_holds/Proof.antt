@@ -1,79 +1,58 @@
--- `last_holds` meets its contract: it leaves at the first test that fails, and each way out rewrites by the tests that led
--- there.
+-- `last_holds` meets its contract: byte by byte, or, where the rule admits marks alone, by one number.
 -- Assumes nothing.
+use mathlib.Core.Path.{sym, ap, _∙_}
+use Prim.Native.Nat.{ℕ, _<_}
+use lib.Dec.{leb}
 use borrow.Author.Needs.{needs}
-use borrow.Author.Tests.{le-leb, lt-leb}
-use Rattle.layout.specs.Section.{lastHolds}
+use Rattle.layout.proofs.Last.{last-holds-alone}
 use Rattle.layout.proofs.rows.last_holds.Statement.{statement}
 use Rattle.layout.proofs.rows.last_holds.Tie as tie
 
-shared-slice-read-if1 : tie.Need-shared-slice-read-if1
-shared-slice-read-if1 c = search needs
+cast-if1 : tie.Need-cast-if1
+cast-if1 c = search needs
+
+cast-if1-2 : tie.Need-cast-if1-2
+cast-if1-2 c = search needs
+
+add-if1 : tie.Need-add-if1
+add-if1 c = search needs
+
+cast-if1-3 : tie.Need-cast-if1-3
+cast-if1-3 c = search needs
+
+add-if1-2 : tie.Need-add-if1-2
+add-if1-2 c = search needs
+
+bytes-hold-requires : tie.Need-bytes-hold-requires
+bytes-hold-requires c κs = search needs
 
 returns : tie.Need-returns
-unfolding lastHolds
-returns c = rw (lt-leb _ _ (c .if1 .taken))
+returns c = c .bytes-hold .ensures
 
-shared-slice-read-if2 : tie.Need-shared-slice-read-if2
-shared-slice-read-if2 c = search needs
+u32-at-requires : tie.Need-u32-at-requires
+u32-at-requires c κs = search needs
+
+cast-result : tie.Need-cast-result
+cast-result c = search needs
 
 returns-2 : tie.Need-returns-2
-unfolding lastHolds
 returns-2 c =
-    rw (
-      le-leb _ _ (c .before .before .before .if1 .left),
-      lt-leb _ _ (c .if2 .taken),
-    )
-
-shared-slice-read-if3 : tie.Need-shared-slice-read-if3
-shared-slice-read-if3 c = search needs
-
-returns-3 : tie.Need-returns-3
-unfolding lastHolds
-returns-3 c =
-    rw (
-      le-leb _ _ (c .before .before .before .before .before .before .if1 .left),
-      le-leb _ _ (c .before .before .before .if2 .left),
-      lt-leb _ _ (c .if3 .taken),
-    )
-
-shared-slice-read-if4 : tie.Need-shared-slice-read-if4
-shared-slice-read-if4 c = search needs
-
-returns-4 : tie.Need-returns-4
-unfolding lastHolds
-returns-4 c =
-    rw (
-      le-leb _ _ (c .before .before .before .before .before .before .before .before .before .if1 .left),
-      le-leb _ _ (c .before .before .before .before .before .before .if2 .left),
-      le-leb _ _ (c .before .before .before .if3 .left),
-      lt-leb _ _ (c .if4 .taken),
-    )
-
-shared-slice-read-result : tie.Need-shared-slice-read-result
-shared-slice-read-result c = search needs
-
-returns-5 : tie.Need-returns-5
-unfolding lastHolds
-returns-5 c =
-    rw (
-      le-leb _ _ (c .before .before .before .before .before .before .before .before .before .before .if1 .left),
-      le-leb _ _ (c .before .before .before .before .before .before .before .if2 .left),
-      le-leb _ _ (c .before .before .before .before .if3 .left),
-      le-leb _ _ (c .before .if4 .left),
-    )
+    let args = c .before .before .before .before .before .before .before .args in
+    let small : args .last .marks < 256 = search needs in
+    ap (λ (n : ℕ). leb n (args .last .marks)) (c .before .u32-at .ensures .0)
+    ∙ sym (last-holds-alone (args .last) (args .p .now) small (c .before .before .if1 .left))
 
 pub last-holds-spec : {M : Type 1} → statement M
 last-holds-spec =
     tie.close
     (tie.spec
-    shared-slice-read-if1
+    cast-if1
+    cast-if1-2
+    add-if1
+    cast-if1-3
+    add-if1-2
+    bytes-hold-requires
     returns
-    shared-slice-read-if2
-    returns-2
-    shared-slice-read-if3
-    returns-3
-    shared-slice-read-if4
-    returns-4
-    shared-slice-read-result
-    returns-5)
+    u32-at-requires
+    cast-result
+    returns-2)

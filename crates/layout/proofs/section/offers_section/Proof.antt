@@ -1,9 +1,8 @@
 -- `offers_section` reads the number of offers in block 0; the rest of the section is fixed.
 -- Assumes nothing.
-use mathlib.Core.Path.{_≡_}
 use borrow.Author.Needs.{needs}
 use Rattle.layout.specs.Blocks.{blockOf}
-use Rattle.layout.specs.Form.{offerCount, offerBytes, ofrs}
+use Rattle.layout.specs.Form.{offersLast, ofrs}
 use Rattle.layout.proofs.section.offers_section.Statement.{statement}
 use Rattle.layout.proofs.section.offers_section.Tie as tie
 
@@ -25,7 +24,7 @@ cast-t8 c = search needs
 returns : tie.Need-returns
 unfolding blockOf
 returns c =
-    λ i. record { letters = ofrs; first = 1; number = 1; rows = (c .offers-in .ensures .0) i; last = offerBytes }
+    λ i. record { letters = ofrs; first = 1; number = 1; rows = (c .offers-in .ensures .0) i; last = offersLast }
 
 pub offers-section-spec : {M : Type 1} → statement M
 offers-section-spec =
