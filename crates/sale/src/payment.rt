@@ -7,7 +7,6 @@ use curve::points_2026;
 use settle::commit;
 use settle::mills_of;
 use values::head::Parameters;
-ghost use mathlib.Core.Path.{_≡_};
 ghost use Prim.Native.Nat.{_≤_};
 ghost use lib.ListN.{length};
 ghost use Rattle.columns.specs.Columns.{columnsOf, empty, ColumnsRead};
