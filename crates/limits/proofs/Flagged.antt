@@ -1,4 +1,4 @@
--- What a table of flags shows of the rows passed, where each resource number has a place in the table.
+-- What a table of flags shows of the rows passed, where each resource number has a flag.
 --
 -- In order: no row; a flag more; one row more; a row whose flag is not set; of two flags that are not both set, which.
 -- Assumes nothing.
@@ -16,9 +16,9 @@ use Rattle.laws.proofs.Compare.{up-to-last}
 use Rattle.limits.specs.Repeats.{fresh}
 use Rattle.limits.proofs.Failing.{by-failing}
 
--- For each of the first n rows the flag at the place of its resource number is set.
-pub record Flagged (place resources : ℕ → ℕ) (met : List Bool) (n : ℕ) : Type 0 where
-  pub flag : (row : ℕ) → row < n → getD met (place (resources row)) false ≡ true
+-- For each of the first n rows the flag of its resource number is set.
+pub record Flagged (flagOf resources : ℕ → ℕ) (met : List Bool) (n : ℕ) : Type 0 where
+  pub flag : (row : ℕ) → row < n → getD met (flagOf (resources row)) false ≡ true
 
 -- one more flag that is set leaves those that are
 set-kept : (met : List Bool) (p q : ℕ) → p < length met → getD met q false ≡ true → getD (set met p true) q false ≡ true
@@ -27,20 +27,20 @@ set-kept met p q fits e =
     (λ same. rw same (getD-set-same met p true false fits))
     (λ apart. getD-set-other met p q true false apart ∙ e)
 
-module _ (place resources : ℕ → ℕ) (met : List Bool) where
+module _ (flagOf resources : ℕ → ℕ) (met : List Bool) where
   -- no row passed, no flag to set
-  pub flagged-none : Flagged place resources met 0
+  pub flagged-none : Flagged flagOf resources met 0
   flagged-none = record { flag = λ row l. absurd (not-suc-le-zero l) }
 
   -- one more flag that is set
   pub flagged-kept : (n p : ℕ) → p < length met
-      → Flagged place resources met n → Flagged place resources (set met p true) n
+      → Flagged flagOf resources met n → Flagged flagOf resources (set met p true) n
   flagged-kept n p fits h =
-      record { flag = λ row l. set-kept met p (place (resources row)) fits (h .flag row l) }
+      record { flag = λ row l. set-kept met p (flagOf (resources row)) fits (h .flag row l) }
 
   -- one row more, with its flag set
-  pub flagged-more : (n p : ℕ) → p < length met → p ≡ place (resources n)
-      → Flagged place resources met n → Flagged place resources (set met p true) (n + 1)
+  pub flagged-more : (n p : ℕ) → p < length met → p ≡ flagOf (resources n)
+      → Flagged flagOf resources met n → Flagged flagOf resources (set met p true) (n + 1)
   flagged-more n p fits e h =
       record {
         flag =
@@ -51,14 +51,14 @@ module _ (place resources : ℕ → ℕ) (met : List Bool) where
       }
 
   -- a row whose flag is not set: its resource number stands in none of the rows passed
-  pub unmet-fresh : (n p : ℕ) → p ≡ place (resources n)
-      → Flagged place resources met n → getD met p false ≡ false → fresh resources n ≡ true
+  pub unmet-fresh : (n p : ℕ) → p ≡ flagOf (resources n)
+      → Flagged flagOf resources met n → getD met p false ≡ false → fresh resources n ≡ true
   unmet-fresh n p e h unset =
       by-failing _ n
       (λ f. f)
       (λ row l before f.
       let same : resources row ≡ resources n = eqb-true _ _ (not-false _ f) in
-      let flag : getD met (place (resources n)) false ≡ true = rw same at (h .flag row l) in
+      let flag : getD met (flagOf (resources n)) false ≡ true = rw same at (h .flag row l) in
       absurd (true≢false (sym flag ∙ rw e at unset)))
 
 -- of two flags that are not both set, one or the other is not

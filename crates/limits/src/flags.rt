@@ -1,14 +1,14 @@
-// Fresh rows are passed quickly by a table of flags, in which each resource number has two places.
+// Fresh rows are passed quickly by a table of flags, of which each resource number has two.
 //
-// Where a flag at one of a number's places is not set, the number was not met. Where both are, other numbers may have set them:
-// there the earlier rows are looked through.
+// Where one of a number's flags is not set, the number was not met. Where both are, other numbers may have set them: there the
+// earlier rows are looked through.
 ghost use mathlib.Core.Path.{_≡_};
 ghost use mathlib.Core.Bool.{true, not};
 ghost use Prim.Native.Nat.{_≤_, _<_};
 ghost use lib.Dec.{eqb};
 ghost use lib.ListN.{length, getD};
 ghost use Rattle.laws.specs.Sum.{every};
-ghost use Rattle.limits.specs.Flags.{placeOfSum, placeOfProduct};
+ghost use Rattle.limits.specs.Flags.{flagOfSum, flagOfProduct};
 ghost use Rattle.limits.specs.Repeats.{fresh};
 
 // Whether a number stands in none of the first n rows. The loop has no branch, so that it runs in lanes.
@@ -23,16 +23,16 @@ fn absent(resources: &[u32], n: usize, number: u32) -> bool
     none
 }
 
-// A number's first place in the table: its low and its high half added.
-fn place_of_sum(number: u32) -> usize
-    ensures { λ r. ⌜ (r ≡ placeOfSum number) × (r < 8192) ⌝ }
+// A number's first flag: its low and its high half added.
+fn flag_of_sum(number: u32) -> usize
+    ensures { λ r. ⌜ (r ≡ flagOfSum number) × (r < 8192) ⌝ }
 {
     ((number % 65536 + number / 65536) % 8192) as usize
 }
 
-// A number's second place: its low and its high half, each moved on, multiplied.
-fn place_of_product(number: u32) -> usize
-    ensures { λ r. ⌜ (r ≡ placeOfProduct number) × (r < 8192) ⌝ }
+// A number's second flag: its low and its high half, each moved on, multiplied.
+fn flag_of_product(number: u32) -> usize
+    ensures { λ r. ⌜ (r ≡ flagOfProduct number) × (r < 8192) ⌝ }
 {
     let low = (number % 65536 + 40503) as u64;
     let high = (number / 65536 + 12345) as u64;
@@ -53,8 +53,8 @@ pub fn fresh_rows(resources: &[u32], n: usize) -> usize
     let mut met = [false; 8192];
     for row in 0..n {
         let number = resources[row];
-        let by_sum = place_of_sum(number);
-        let by_product = place_of_product(number);
+        let by_sum = flag_of_sum(number);
+        let by_product = flag_of_product(number);
         if met[by_sum] & met[by_product] {
             if !absent(resources, row, number) {
                 return row;

@@ -1,5 +1,5 @@
--- `limits::flags::fresh_rows` passes fresh rows only. The loop's invariant: each row passed is fresh, and the flags at both places
--- of its resource number are set.
+-- `limits::flags::fresh_rows` passes fresh rows only. The loop's invariant: each row passed is fresh, and both flags of its resource
+-- number are set.
 -- Assumes nothing.
 use mathlib.Core.Path.{_≡_, sym, ap, _∙_}
 use mathlib.Core.Bool.{true}
@@ -11,7 +11,7 @@ use borrow.Author.Needs.{needs}
 use borrow.Author.Tests.{not-false}
 use Rattle.laws.specs.Sum.{every}
 use Rattle.laws.proofs.Everys.{every-zero}
-use Rattle.limits.specs.Flags.{placeOfSum, placeOfProduct}
+use Rattle.limits.specs.Flags.{flagOfSum, flagOfProduct}
 use Rattle.limits.specs.Repeats.{fresh}
 use Rattle.limits.proofs.Failing.{every-more}
 use Rattle.limits.proofs.Flagged.{Flagged, flagged-none, flagged-kept, flagged-more, unmet-fresh, by-unset}
@@ -23,8 +23,8 @@ Inv-loop resources n met₀ row₀ met row =
     (row ≤ n)
     × (length met ≡ 8192)
     × (every (fresh (λ r. getD resources r 0)) row ≡ true)
-    × Flagged placeOfSum (λ r. getD resources r 0) met row
-    × Flagged placeOfProduct (λ r. getD resources r 0) met row
+    × Flagged flagOfSum (λ r. getD resources r 0) met row
+    × Flagged flagOfProduct (λ r. getD resources r 0) met row
 
 abbrev μ-loop : tie.MeasureT-loop
 μ-loop resources n met₀ row₀ met row = n - row
@@ -41,11 +41,11 @@ mul-number c = search needs
 shared-slice-read-number : tie.Need-shared-slice-read-number Inv-loop μ-loop
 shared-slice-read-number c = search needs
 
-place-of-sum-requires : tie.Need-place-of-sum-requires Inv-loop μ-loop
-place-of-sum-requires c κs = search needs
+flag-of-sum-requires : tie.Need-flag-of-sum-requires Inv-loop μ-loop
+flag-of-sum-requires c κs = search needs
 
-place-of-product-requires : tie.Need-place-of-product-requires Inv-loop μ-loop
-place-of-product-requires c κs = search needs
+flag-of-product-requires : tie.Need-flag-of-product-requires Inv-loop μ-loop
+flag-of-product-requires c κs = search needs
 
 array-read-if2 : tie.Need-array-read-if2 Inv-loop μ-loop
 array-read-if2 c = search needs
@@ -81,8 +81,8 @@ row-fresh c =
     (λ w. sym (w .1 .ensures) ∙ not-false _ (w .2 .left))
     (λ w.
     by-unset _ _ (w .left)
-    (unmet-fresh _ _ _ _ _ (c .before .before .place-of-sum .ensures .0) (inv .3))
-    (unmet-fresh _ _ _ _ _ (c .before .place-of-product .ensures .0) (inv .4)))
+    (unmet-fresh _ _ _ _ _ (c .before .before .flag-of-sum .ensures .0) (inv .3))
+    (unmet-fresh _ _ _ _ _ (c .before .flag-of-product .ensures .0) (inv .4)))
     (c .if2 .came)
 
 loop-again : tie.Need-loop-again Inv-loop μ-loop
@@ -92,8 +92,8 @@ loop-again c =
       search needs,
       every-more _ _ (inv .2) (row-fresh c),
       flagged-kept _ _ _ _ _ (search needs)
-          (flagged-more _ _ _ _ _ (omega arith) (c .before .before .place-of-sum .ensures .0) (inv .3)),
-      flagged-more _ _ _ _ _ (search needs) (c .before .place-of-product .ensures .0)
+          (flagged-more _ _ _ _ _ (omega arith) (c .before .before .flag-of-sum .ensures .0) (inv .3)),
+      flagged-more _ _ _ _ _ (search needs) (c .before .flag-of-product .ensures .0)
           (flagged-kept _ _ _ _ _ (omega arith) (inv .4)),
     )
 
@@ -110,8 +110,8 @@ fresh-rows-spec =
     loop-holds
     mul-number
     shared-slice-read-number
-    place-of-sum-requires
-    place-of-product-requires
+    flag-of-sum-requires
+    flag-of-product-requires
     array-read-if2
     array-read-if2-2
     absent-requires

@@ -1,9 +1,9 @@
--- `limits::flags::place_of_product` meets its contract: a product of two numbers of 32 bits fits 64.
+-- `limits::flags::flag_of_product` meets its contract: a product of two numbers of 32 bits fits 64.
 -- Assumes nothing.
 use borrow.Author.Needs.{needs}
 use Rattle.laws.proofs.Products.{product-below}
-use Rattle.limits.proofs.flags.place_of_product.Statement.{statement}
-use Rattle.limits.proofs.flags.place_of_product.Tie as tie
+use Rattle.limits.proofs.flags.flag_of_product.Statement.{statement}
+use Rattle.limits.proofs.flags.flag_of_product.Tie as tie
 
 add-low : tie.Need-add-low
 add-low c = search needs
@@ -23,5 +23,5 @@ mul-result c = record { fits = product-below 32 (search needs) (search needs) }
 returns : tie.Need-returns
 returns c = search needs
 
-pub place-of-product-spec : {M : Type 1} → statement M
-place-of-product-spec = tie.close (tie.spec add-low cast-low add-high cast-high mul-result returns)
+pub flag-of-product-spec : {M : Type 1} → statement M
+flag-of-product-spec = tie.close (tie.spec add-low cast-low add-high cast-high mul-result returns)
