@@ -2,13 +2,14 @@
 // and so no answer: that, and an answer that is not taken, is one line on standard error.
 use input::read_input;
 use libc::STDERR_FILENO;
+use libc::STDIN_FILENO;
 use libc::STDOUT_FILENO;
 use report::put_report;
 
 // A book that does not fit the buffer is longer than any book, and what fits of it is refused as too long.
 fn main() {
     let mut bytes = io::large_buffer();
-    let input = read_input(&mut bytes);
+    let input = read_input(STDIN_FILENO, &mut bytes);
     if input.failed {
         io::write_all(STDERR_FILENO, b"clear: standard input cannot be read\n");
         return;

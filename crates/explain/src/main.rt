@@ -10,6 +10,7 @@ use call::Answer;
 use call::clear;
 use input::read_input;
 use libc::STDERR_FILENO;
+use libc::STDIN_FILENO;
 use page::stated::say_stated;
 use page::totals::say_totals;
 use refused::explain_refusal;
@@ -55,7 +56,7 @@ fn explain(book: &[u8]) -> bool {
 
 fn main() {
     let mut bytes = io::large_buffer();
-    let input = read_input(&mut bytes);
+    let input = read_input(STDIN_FILENO, &mut bytes);
     if input.failed {
         io::write_all(STDERR_FILENO, b"explain: standard input cannot be read\n");
         return;

@@ -9,10 +9,10 @@ use Rattle.input.proofs.read_input.Statement.{statement}
 use Rattle.input.proofs.read_input.Tie as tie
 
 abbrev Inv-loop : tie.InvT-loop
-Inv-loop bytes₀ done₀ bytes done = (length bytes ≡ length bytes₀) × (done ≤ length bytes)
+Inv-loop file bytes₀ done₀ bytes done = (length bytes ≡ length bytes₀) × (done ≤ length bytes)
 
 abbrev μ-loop : tie.MeasureT-loop
-μ-loop bytes₀ done₀ bytes done = length bytes - done
+μ-loop file bytes₀ done₀ bytes done = length bytes - done
 
 loop-holds : tie.Need-loop-holds Inv-loop μ-loop
 loop-holds c = search needs
