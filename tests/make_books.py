@@ -8,7 +8,7 @@ What is expected stands beside each book, worked out by hand from the outline: t
 where that differs, and how many rows the reader hands back.
 """
 from form_books import checks, head_layouts, lengths, row_layouts
-from write_book import CRATES, THREE, book, keep, many, offer
+from write_book import TESTS, THREE, book, keep, many, offer, program_files
 
 
 def passes(name, data, rows_read):
@@ -111,4 +111,4 @@ def cases():
 
 
 if __name__ == "__main__":
-    keep(CRATES / "verdicts", cases())
+    keep(program_files, TESTS.parent / "crates" / "verdicts", cases())

@@ -1,14 +1,14 @@
 #!/usr/bin/env python3
-"""Makes the books that the program `clearings` is run on, with what `clear` prints for each.
+"""Makes the books that the program `clear` is run on by tests/programs, with what it prints for each.
 
-    tests/make_clearings.py            writes crates/clearings/data/*.book, crates/clearings/args and crates/clearings/stdout
+    tests/make_clearings.py            writes tests/clearings/*.book, and *.txt with what is expected of each
     tests/make_clearings.py --check    says whether they are what it would write
 
-The lines that are expected stand beside each book, worked out by hand from the outline; ` / ` parts one from the next.
+The lines that are expected stand here beside each book, worked out by hand from the outline; ` / ` parts one from the next.
 
 The reference curve falls by 125 cents a tenth from 50,000 at 9,900 to 18,750 at 10,150, then by 62.5 to 0 at 10,450.
 """
-from write_book import CRATES, THREE, book, keep, many, offer
+from write_book import TESTS, THREE, book, files_beside, keep, many, offer
 
 NOTHING = "price - / 21 0 0 0 / daily 0 / year 0"
 UNDER = offer(11, 10_000, 9_900)
@@ -146,8 +146,8 @@ def cases():
     """Each book's name, its bytes, and what is printed of it."""
     for part in (reference_cases, curve_cases, tie_cases, block_cases, large_cases, refused_cases):
         for name, data, lines in part():
-            yield name, data, f"{name}.book / {lines}\n".replace(" / ", "\n")
+            yield name, data, f"{lines}\n".replace(" / ", "\n")
 
 
 if __name__ == "__main__":
-    keep(CRATES / "clearings", cases())
+    keep(files_beside, TESTS / "clearings", cases())

@@ -1,4 +1,4 @@
-"""Writes books, sound or not, and the folder of a program that is run on them.
+"""Writes books, sound or not, and the files of those that ship with the project.
 
 Written from the outline alone: it shares nothing with the library.
 """
@@ -6,7 +6,7 @@ import pathlib
 import struct
 import sys
 
-CRATES = pathlib.Path(__file__).resolve().parent.parent / "crates"
+TESTS = pathlib.Path(__file__).resolve().parent
 
 REFERENCE = dict(year=2026, cost=146_000, offset=73_000, outage=2_000, requirement=10_000)
 
@@ -74,28 +74,36 @@ def many(n):
 THREE = [offer(11, 10_000, 9_900, stamp=1), offer(12, 37_500, 200, stamp=2), offer(13, 37_500, 100, block=50, stamp=3)]
 
 
-def files(home, cases):
+def program_files(home, cases):
     """The files of a program's folder, from each book's name, its bytes and what is expected to be printed of it."""
-    cases = list(cases)
-    names = [f"{name}.book" for name, _, _ in cases]
-    assert len(set(names)) == len(names)
-    made = {home / "data" / name: data for name, (_, data, _) in zip(names, cases)}
-    made[home / "args"] = "".join(f"{name}\n" for name in names).encode()
+    made = {home / "data" / f"{name}.book": data for name, data, _ in cases}
+    made[home / "args"] = "".join(f"{name}.book\n" for name, _, _ in cases).encode()
     made[home / "stdout"] = "".join(printed for _, _, printed in cases).encode()
     return made
 
 
-def keep(home, cases):
-    """Writes the files of a program's folder, or with --check says which are not what the script makes."""
-    script, made = pathlib.Path(sys.argv[0]).name, files(home, cases)
-    stray = [path for path in (home / "data").glob("*") if path not in made]
+def files_beside(home, cases):
+    """Each book with what is expected to be printed of it beside it."""
+    made = {home / f"{name}.book": data for name, data, _ in cases}
+    made |= {home / f"{name}.txt": printed.encode() for name, _, printed in cases}
+    return made
+
+
+def keep(files, home, cases):
+    """Writes the files of some books, or with --check says which are not what the script makes."""
+    cases = list(cases)
+    assert len({name for name, _, _ in cases}) == len(cases)
+    made = files(home, cases)
+    folders = {path.parent for path in made if path.suffix == ".book"}
+    stray = [path for folder in folders for path in folder.glob("*") if path not in made]
     if sys.argv[1:] == ["--check"]:
         wrong = stray + [path for path, data in made.items() if not path.is_file() or path.read_bytes() != data]
         for path in wrong:
-            print(f"not what tests/{script} makes: {path.name}")
-        print(f"{len(made) - 2} books compared with their making")
+            print(f"not what {pathlib.Path(sys.argv[0]).name} makes: {path.name}")
+        print(f"{len(cases)} books compared with their making")
         sys.exit(1 if wrong else 0)
-    (home / "data").mkdir(parents=True, exist_ok=True)
+    for folder in folders:
+        folder.mkdir(parents=True, exist_ok=True)
     for path in stray:
         path.unlink()
     for path, data in made.items():

@@ -1,4 +1,5 @@
-// An accepted book: what the curve buys, and its rows.
+// An accepted book: what the curve buys, and its rows. Each function answers whether its lines were taken, and says no more
+// once one was not.
 use market::price::ClearingPrice;
 use page::bought::say_curve;
 use page::bought::say_last_point;
@@ -22,24 +23,25 @@ use workings::works::Answer;
 use workings::works::workings;
 
 // The curve, the total and why it stops there.
-fn explain_total(stop: Stop) {
+fn explain_total(stop: Stop) -> bool {
     let level = stop.level;
     let last = stop.last;
     let next = stop.next;
     let price = last.price;
-    say_curve(stop.curve);
-    say_total(level.total, price.0, last.offered);
+    if !(say_curve(stop.curve) && say_total(level.total, price.0, last.offered)) {
+        return false;
+    }
     match next {
         Next::Bought(t) => {
             let next_price = t.price;
-            say_next(next_price.0, t.offered);
+            say_next(next_price.0, t.offered)
         }
         Next::NoMore => say_last_point(),
     }
 }
 
 // The price and what sets it, or that there is none.
-fn explain_price(stop: Stop, price: ClearingPrice) {
+fn explain_price(stop: Stop, price: ClearingPrice) -> bool {
     let last = stop.last;
     let curve_price = last.price;
     match price {
@@ -49,11 +51,11 @@ fn explain_price(stop: Stop, price: ClearingPrice) {
 }
 
 // What the curve buys of a book, and the price.
-pub fn explain_market(book: &[u8], price: ClearingPrice) {
+pub fn explain_market(book: &[u8], price: ClearingPrice) -> bool {
     if let Answer::Worked(w) = workings(book, 0) {
-        explain_total(w.stop);
-        explain_price(w.stop, price);
+        return explain_total(w.stop) && explain_price(w.stop, price);
     }
+    true
 }
 
 // A row with its offer and its share.
@@ -64,23 +66,30 @@ fn explain_share(
     price: ClearingPrice,
     cleared: u32,
     committed: u32,
-) {
-    say_offer(row, o);
-    say_share(o.quantity, s.amount, s.sum, s.down, s.remainder, cleared);
-    say_settled(cleared, committed, make_whole(price, cleared, committed));
+) -> bool {
+    say_offer(row, o)
+        && say_share(o.quantity, s.amount, s.sum, s.down, s.remainder, cleared)
+        && say_settled(cleared, committed, make_whole(price, cleared, committed))
 }
 
 // A row of a book.
-fn explain_row(book: &[u8], row: usize, price: ClearingPrice, cleared: u32, committed: u32) {
+fn explain_row(
+    book: &[u8],
+    row: usize,
+    price: ClearingPrice,
+    cleared: u32,
+    committed: u32,
+) -> bool {
     let RowOffer::Offered(o) = offer_of(book, row) else {
-        return;
+        return true;
     };
     if let Answer::Worked(w) = workings(book, row) {
         let share = w.share;
         if let RowShare::Shares(s) = share {
-            explain_share(row, o, s, price, cleared, committed);
+            return explain_share(row, o, s, price, cleared, committed);
         }
     }
+    true
 }
 
 // The rows of a book.
@@ -89,9 +98,12 @@ pub fn explain_rows(
     price: ClearingPrice,
     cleared: &[u32; 600],
     committed: &[u32; 600],
-) {
+) -> bool {
     let n = rows_of(book);
     for row in 0..n {
-        explain_row(book, row, price, cleared[row], committed[row]);
+        if !explain_row(book, row, price, cleared[row], committed[row]) {
+            return false;
+        }
     }
+    true
 }

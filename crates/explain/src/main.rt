@@ -1,5 +1,6 @@
 // Reads a book from standard input and writes, for a person, what an analyst would work by hand: what the book states, why
-// it is refused, or where its total stops, what sets the price, and each row's share.
+// it is refused, or where its total stops, what sets the price, and each row's share. Where the input cannot be read there is
+// no book to explain: that, and a page that is not all taken, is one line on standard error.
 mod accepted;
 mod refused;
 
@@ -8,6 +9,8 @@ use accepted::explain_rows;
 use calendar::days_of;
 use call::Answer;
 use call::clear;
+use input::read_input;
+use libc::STDERR_FILENO;
 use libc::STDIN_FILENO;
 use page::stated::say_stated;
 use page::totals::say_totals;
@@ -17,38 +20,51 @@ use workings::read::Head;
 use workings::read::head_of;
 
 // What block 0 states, where the form of the book lets it be read.
-fn explain_head(book: &[u8]) {
+fn explain_head(book: &[u8]) -> bool {
     if let Head::Stated(p, offers) = head_of(book) {
-        say_stated(p, offers);
+        return say_stated(p, offers);
     }
+    true
 }
 
 // The totals of a book.
-fn explain_totals(book: &[u8], c: Clearing) {
+fn explain_totals(book: &[u8], c: Clearing) -> bool {
     if let Head::Stated(p, _) = head_of(book) {
         let price = c.price;
-        say_totals(price, c.daily, c.make_whole, days_of(p.year), c.year);
+        return say_totals(price, c.daily, c.make_whole, days_of(p.year), c.year);
     }
+    true
 }
 
-// All there is to say of a book.
-fn explain(book: &[u8]) {
+// All there is to say of a book; whether it was all taken.
+fn explain(book: &[u8]) -> bool {
     let mut cleared = [0u32; 600];
     let mut committed = [0u32; 600];
-    explain_head(book);
+    if !explain_head(book) {
+        return false;
+    }
     match clear(book, &mut cleared, &mut committed) {
         Answer::Refused(number, place) => explain_refusal(book, number, place),
         Answer::Cleared(c) => {
             let price = c.price;
-            explain_market(book, price);
-            explain_rows(book, price, &cleared, &committed);
-            explain_totals(book, c);
+            explain_market(book, price)
+                && explain_rows(book, price, &cleared, &committed)
+                && explain_totals(book, c)
         }
     }
 }
 
 fn main() {
     let mut bytes = io::large_buffer();
-    let length = io::read_full(STDIN_FILENO, &mut bytes);
-    explain(&bytes[..length]);
+    let input = read_input(STDIN_FILENO, &mut bytes);
+    if input.failed {
+        io::write_all(STDERR_FILENO, b"explain: standard input cannot be read\n");
+        return;
+    }
+    if !explain(&bytes[..input.length]) {
+        io::write_all(
+            STDERR_FILENO,
+            b"explain: standard output was not all taken\n",
+        );
+    }
 }

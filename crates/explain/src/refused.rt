@@ -1,4 +1,4 @@
-// A refused book.
+// A refused book. Each function answers whether its lines were taken.
 use page::refused::say_block;
 use page::refused::say_length;
 use page::refused::say_parameter;
@@ -21,19 +21,22 @@ fn first_row(book: &[u8], row: usize, resource: u32) -> usize {
 }
 
 // 6, 7 and 8: a row, with its values.
-fn explain_row(book: &[u8], number: u32, row: usize) {
+fn explain_row(book: &[u8], number: u32, row: usize) -> bool {
     if let RowOffer::Offered(o) = offer_of(book, row) {
-        say_row(number, row, o.resource, first_row(book, row, o.resource));
-        if number == 7 {
-            say_values(o);
-        } else {
-            say_offer(row, o);
+        if !say_row(number, row, o.resource, first_row(book, row, o.resource)) {
+            return false;
         }
+        return if number == 7 {
+            say_values(o)
+        } else {
+            say_offer(row, o)
+        };
     }
+    true
 }
 
 // A refusal, by its number.
-pub fn explain_refusal(book: &[u8], number: u32, place: u32) {
+pub fn explain_refusal(book: &[u8], number: u32, place: u32) -> bool {
     match number {
         1 => say_length(book.len()),
         2 | 3 => say_block(number, place),

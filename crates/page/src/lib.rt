@@ -1,4 +1,5 @@
-// What the program `explain` says to a person: each function writes some lines to standard output, a form with its numbers.
+// What the program `explain` says to a person: each function writes some lines to standard output, a form with its numbers,
+// and answers whether they were taken.
 //
 // The forms stand here as they are read, with marks for the numbers (crate `text`). Every zero has its reason beside it, every
 // number of megawatts or dollars the raw units, and no line is longer than 80 letters.
@@ -13,10 +14,10 @@ use text::put_form;
 use values::Value;
 
 // Writes a form with its numbers.
-fn say(form: &[u8], numbers: &[u64]) {
+fn say(form: &[u8], numbers: &[u64]) -> bool {
     let mut text = [0u8; 2048];
     let end = put_form(&mut text, 0, form, numbers);
-    io::write_all(STDOUT_FILENO, &text[..end]);
+    io::write_all(STDOUT_FILENO, &text[..end])
 }
 
 // 1 where a value is given.

@@ -8,18 +8,18 @@ use values::place::Offer;
 const READ: usize = 65536;
 
 // 1: the length. What fills all that is read may be longer.
-pub fn say_length(bytes: usize) {
+pub fn say_length(bytes: usize) -> bool {
     say(
         b"refused 1 at 0
   the length is # bytes[| or more]
   it has to be a multiple of 512, from 512 to 20992
 ",
         &[bytes as u64, (bytes >= READ) as u64],
-    );
+    )
 }
 
 // 2 and 3: the check and the layout of a block.
-pub fn say_block(number: u32, block: u32) {
+pub fn say_block(number: u32, block: u32) -> bool {
     say(
         b"refused # at block #
   [||the check of block # is wrong, so nothing of the book is read\
@@ -33,11 +33,11 @@ pub fn say_block(number: u32, block: u32) {
             block as u64,
             block as u64,
         ],
-    );
+    )
 }
 
 // 4 and 5: a parameter is missing, or out of range.
-pub fn say_parameter(number: u32, field: u32) {
+pub fn say_parameter(number: u32, field: u32) -> bool {
     say(
         b"refused # at field #
   [|the delivery year|C, the cost of new entry,|E, the revenue offset,|F, the outage rate,\
@@ -51,11 +51,11 @@ pub fn say_parameter(number: u32, field: u32) {
             (number == 5) as u64,
             field as u64,
         ],
-    );
+    )
 }
 
 // 6 and 8: a row has no price, or the resource number of an earlier row; and the first lines of 7.
-pub fn say_row(number: u32, row: usize, resource: u32, first: usize) {
+pub fn say_row(number: u32, row: usize, resource: u32, first: usize) -> bool {
     say(
         b"refused # at row #
   row # (resource #) has [||||||no price; a missing price is not zero\
@@ -70,11 +70,11 @@ pub fn say_row(number: u32, row: usize, resource: u32, first: usize) {
             number as u64,
             first as u64,
         ],
-    );
+    )
 }
 
 // 7: the values of a row, of which one or more are out of range.
-pub fn say_values(o: Offer) {
+pub fn say_values(o: Offer) -> bool {
     let price = o.price;
     let block = o.block;
     say(
@@ -92,5 +92,5 @@ pub fn say_values(o: Offer) {
             if_given(block),
             number_held(block) as u64,
         ],
-    );
+    )
 }

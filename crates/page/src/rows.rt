@@ -6,7 +6,7 @@ use values::number_held;
 use values::place::Offer;
 
 // Says a row's offer.
-pub fn say_offer(row: usize, o: Offer) {
+pub fn say_offer(row: usize, o: Offer) -> bool {
     let price = o.price;
     let block = o.block;
     say(
@@ -23,7 +23,7 @@ pub fn say_offer(row: usize, o: Offer) {
             number_held(block) as u64,
             o.stamp,
         ],
-    );
+    )
 }
 
 // What a row gets of its level: 0 nothing, 1 all of its offer, 2 a share.
@@ -50,7 +50,14 @@ fn spare(amount: u32, sum: u32, down: u64, cleared: u32) -> u64 {
 }
 
 // Says what the row's level receives of what is offered at it, and the row's share.
-pub fn say_share(quantity: u32, amount: u32, sum: u32, down: u64, remainder: u64, cleared: u32) {
+pub fn say_share(
+    quantity: u32,
+    amount: u32,
+    sum: u32,
+    down: u64,
+    remainder: u64,
+    cleared: u32,
+) -> bool {
     say(
         b"  its level receives ~ MW (#) of ~ MW (#)
   [X leaves nothing for it, so nothing of the row clears\
@@ -70,7 +77,7 @@ pub fn say_share(quantity: u32, amount: u32, sum: u32, down: u64, remainder: u64
             remainder,
             spare(amount, sum, down, cleared),
         ],
-    );
+    )
 }
 
 // Why a row has the make-whole it has: 0 it commits nothing, 1 it commits what cleared, 2 the price is zero, 3 it is paid.
@@ -87,7 +94,7 @@ fn reason(mills: u64, cleared: u32, committed: u32) -> u64 {
 }
 
 // Says what a row clears and commits, and its make-whole or why there is none.
-pub fn say_settled(cleared: u32, committed: u32, mills: u64) {
+pub fn say_settled(cleared: u32, committed: u32, mills: u64) -> bool {
     say(
         b"  cleared ~ MW (#), committed ~ MW (#)
   make-whole [0: nothing of the row cleared, so it commits nothing\
@@ -102,5 +109,5 @@ pub fn say_settled(cleared: u32, committed: u32, mills: u64) {
             reason(mills, cleared, committed),
             mills,
         ],
-    );
+    )
 }

@@ -5,7 +5,7 @@ use values::head::Parameters;
 use values::number_held;
 
 // Says the parameters and the number of offers.
-pub fn say_stated(p: Parameters, offers: u32) {
+pub fn say_stated(p: Parameters, offers: u32) -> bool {
     let cost = p.cost;
     let offset = p.offset;
     let outage = p.outage;
@@ -36,5 +36,5 @@ pub fn say_stated(p: Parameters, offers: u32) {
             number_held(requirement) as u64,
             offers as u64,
         ],
-    );
+    )
 }

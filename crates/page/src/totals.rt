@@ -11,7 +11,7 @@ fn words_for(price: ClearingPrice, daily: u64) -> u64 {
 }
 
 // Says the daily total, its make-whole, and the total of a year of so many days.
-pub fn say_totals(price: ClearingPrice, daily: u64, make_whole: u64, days: u64, year: u64) {
+pub fn say_totals(price: ClearingPrice, daily: u64, make_whole: u64, days: u64, year: u64) -> bool {
     say(
         b"
 The daily total is & dollars (# mills)[|: the price is zero|: with no price every amount is zero]
@@ -20,5 +20,5 @@ The year total is # times as much
   & dollars (# mills)
 ",
         &[daily, words_for(price, daily), make_whole, days, year],
-    );
+    )
 }

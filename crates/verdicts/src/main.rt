@@ -2,6 +2,7 @@
 // rows the reader hands back.
 use book::soundness;
 use book::verdict;
+use input::read_input;
 use layout::reader::own_bytes;
 use libc::STDOUT_FILENO;
 use values::Verdict;
@@ -62,9 +63,13 @@ fn judge(name: &[u8]) {
         return;
     }
     let mut bytes = io::large_buffer();
-    let length = io::read_full(file, &mut bytes);
+    let input = read_input(file, &mut bytes);
+    if input.failed {
+        os::fail(name);
+    } else {
+        write_line(name, &bytes[..input.length]);
+    }
     libc::close(file);
-    write_line(name, &bytes[..length]);
 }
 
 // Judges the book that argument i names.

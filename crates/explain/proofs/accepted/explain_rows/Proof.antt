@@ -1,4 +1,5 @@
--- `explain_rows` ends: it explains one row after another. Nothing has to hold from turn to turn.
+-- `explain_rows` ends: it explains one row after another, or leaves at the first that is not taken. Nothing has to hold from
+-- turn to turn.
 -- Assumes nothing.
 use Prim.Native.Nat.{_-_}
 use borrow.Author.Needs.{needs}
@@ -32,6 +33,9 @@ element-copy-out-explain-row-2 c = search needs
 explain-row-requires : tie.Need-explain-row-requires Inv-loop μ-loop
 explain-row-requires c κs = search needs
 
+returns : tie.Need-returns Inv-loop μ-loop
+returns c = search needs
+
 add-row : tie.Need-add-row Inv-loop μ-loop
 add-row c = search needs
 
@@ -41,8 +45,8 @@ loop-less c = search needs
 loop-again : tie.Need-loop-again Inv-loop μ-loop
 loop-again c = search needs
 
-returns : tie.Need-returns Inv-loop μ-loop
-returns c = search needs
+returns-2 : tie.Need-returns-2 Inv-loop μ-loop
+returns-2 c = search needs
 
 pub explain-rows-spec : {M : Type 1} → statement M
 explain-rows-spec =
@@ -57,7 +61,8 @@ explain-rows-spec =
     mul-explain-row-2
     element-copy-out-explain-row-2
     explain-row-requires
+    returns
     add-row
     loop-less
     loop-again
-    returns)
+    returns-2)
