@@ -66,3 +66,13 @@ fn numbers_and_places_make_their_refusal_again() {
     assert_eq!(Refusal::of(9, 1).to_string(), "refused 9 at buffer 1 (cleared): a result buffer has fewer entries than offers");
     assert_eq!(Refusal::of(20, 0).to_string(), "refused 20 at 0: the room lent is too small");
 }
+
+#[test]
+fn two_threads_clear_one_book() {
+    let (book, ..) = verdicts().into_iter().find(|(.., rows)| *rows == MOST_ROWS).unwrap();
+    let once = clear(&book);
+    std::thread::scope(|threads| {
+        let others: Vec<_> = (0..2).map(|_| threads.spawn(|| (0..200).all(|_| clear(&book) == once))).collect();
+        assert!(others.into_iter().all(|other| other.join().unwrap()));
+    });
+}
