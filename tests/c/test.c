@@ -13,14 +13,16 @@ int main(int count, char **words)
         fprintf(stderr, "usage: test DATA STDOUT\n");
         return 2;
     }
-    expect(sizeof(ozp_answer) == 48 && sizeof(ozp_row_values) == 40 && sizeof(ozp_curve_points) == 36 && sizeof(ozp_curve_price) == 16,
-           "header", "sizes");
+    expect(ozp_version() == OZP_VERSION, "header", "version");
     books = judge_all(words[1], words[2]);
     reference(words[1]);
     nothing(words[1]);
+    reading(words[1]);
     curve();
     make_whole();
+    texts(words[1]);
     threads(words[1]);
+    stacks(words[1]);
     printf("%u books, %u facts hold, %u fail\n", books, held, failed);
     return failed == 0 && books > 0 ? 0 : 1;
 }

@@ -1,0 +1,76 @@
+/* How much stack each call uses: a thread calls on a stack that was painted before, and the paint that is gone is counted. */
+#define _POSIX_C_SOURCE 200112L
+
+#include "check.h"
+
+#include <pthread.h>
+#include <stdio.h>
+#include <stdlib.h>
+#include <string.h>
+
+#define STACK (256 * 1024)
+#define PAINT 0x5C
+
+/* the most that the header lets a call use */
+#define MOST (48 * 1024)
+
+static uint8_t book[ROOM];
+static size_t bytes;
+static struct buffers out;
+static ozp_row rows[ENTRIES];
+static uint8_t room[OZP_REPORT_BYTES];
+
+static void *call_nothing(void *lent) { return lent; }
+static void *call_clear(void *lent) { clear(book, bytes, &out, ENTRIES, ENTRIES); return lent; }
+static void *call_quote(void *lent) { ozp_quote(book, bytes); return lent; }
+static void *call_read(void *lent) { ozp_read(book, bytes, rows, ENTRIES); return lent; }
+static void *call_report(void *lent) { ozp_report(book, bytes, room, sizeof room); return lent; }
+static void *call_words(void *lent) { ozp_words(OZP_WRONG_LAYOUT, room, sizeof room); return lent; }
+static void *call_price_at(void *lent)
+{
+    ozp_price_at(ozp_read(book, bytes, rows, ENTRIES).parameters, 10000);
+    return lent;
+}
+
+/* the bytes of stack that a thread uses */
+static size_t used(void *(*call)(void *), uint8_t *stack)
+{
+    pthread_attr_t own;
+    pthread_t thread;
+    size_t left = 0;
+    memset(stack, PAINT, STACK);
+    pthread_attr_init(&own);
+    pthread_attr_setstack(&own, stack, STACK);
+    expect(pthread_create(&thread, &own, call, NULL) == 0, "stack", "a thread");
+    pthread_join(thread, NULL);
+    pthread_attr_destroy(&own);
+    while (left < STACK && stack[left] == PAINT)
+        left++;
+    return STACK - left;
+}
+
+void stacks(const char *folder)
+{
+    static const struct { const char *name; void *(*call)(void *); } calls[] = {
+        {"clear", call_clear}, {"quote", call_quote}, {"read", call_read}, {"price_at", call_price_at}, {"report", call_report},
+        {"words", call_words},
+    };
+    static const char *const books[] = {"reference.book", "offers-600-length-20992.book"};
+    void *stack = NULL;
+    size_t i, k, idle, most;
+    expect(posix_memalign(&stack, 4096, STACK) == 0, "stack", "room for a stack");
+    idle = used(call_nothing, (uint8_t *)stack);
+    printf("KiB of stack:");
+    for (i = 0; i < LENGTH(calls); i++) {
+        for (most = idle, k = 0; k < LENGTH(books); k++) {
+            size_t now;
+            bytes = read_book(folder, books[k], book);
+            now = used(calls[i].call, (uint8_t *)stack);
+            most = now > most ? now : most;
+        }
+        printf(" %s %.1f", calls[i].name, (double)(most - idle) / 1024);
+        expect(most - idle <= MOST, calls[i].name, "no more stack than the header says");
+    }
+    printf("\n");
+    free(stack);
+}
