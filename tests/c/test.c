@@ -1,6 +1,8 @@
 /* Calls every exported function as a program in C does, and counts what holds.
  *
- *     test DATA STDOUT     the books of DATA, and the lines that the program `verdicts` writes of them
+ *     test DATA STDOUT [stacks]     the books of DATA, and the lines that the program `verdicts` writes of them
+ *
+ * With a third word the stack of each call is measured too, which valgrind takes for wrong reads.
  */
 #include "check.h"
 
@@ -9,8 +11,8 @@
 int main(int count, char **words)
 {
     unsigned books;
-    if (count != 3) {
-        fprintf(stderr, "usage: test DATA STDOUT\n");
+    if (count != 3 && count != 4) {
+        fprintf(stderr, "usage: test DATA STDOUT [stacks]\n");
         return 2;
     }
     expect(ozp_version() == OZP_VERSION, "header", "version");
@@ -22,7 +24,8 @@ int main(int count, char **words)
     make_whole();
     texts(words[1]);
     threads(words[1]);
-    stacks(words[1]);
+    if (count == 4)
+        stacks(words[1]);
     printf("%u books, %u facts hold, %u fail\n", books, held, failed);
     return failed == 0 && books > 0 ? 0 : 1;
 }

@@ -7,7 +7,7 @@
  */
 #define _POSIX_C_SOURCE 200112L
 
-#include "../../include/ozpinduru.h"
+#include <ozpinduru.h>
 
 #include <pthread.h>
 #include <stdio.h>
@@ -30,7 +30,7 @@ struct call {
 static void *room(size_t bytes)
 {
     void *room = malloc(bytes);
-    if (room == NULL) {
+    if (room == NULL && bytes > 0) {
         perror("room for a call");
         exit(2);
     }
@@ -75,12 +75,30 @@ static int holds(const uint32_t *buffer, size_t entries, const uint32_t *due, si
 static int same(ozp_answer a, const struct head *due)
 {
     return a.make_whole == due->make_whole && a.daily == due->daily && a.year == due->year && a.kind == due->kind
-           && a.total == due->total && a.price == due->price && a.number == due->number && a.place == due->place;
+           && a.total == due->total && a.price == due->price && a.number == due->number && a.place == due->place
+           && a.rows == (due->kind == OZP_REFUSED ? OZP_NO_VALUE : due->filled);
 }
 
-static int has_row(const struct call *call, size_t row)
+/* whether a book is read into so many entries */
+static int is_read(const struct call *call, size_t entries)
 {
-    return ozp_row(call->book, call->due.book_bytes, row).kind == OZP_GIVEN;
+    ozp_row *rows = (ozp_row *)room(entries * sizeof *rows);
+    ozp_contents contents = ozp_read(call->book, call->due.book_bytes, rows, entries);
+    free(rows);
+    return contents.kind == OZP_GIVEN && contents.rows == call->due.rows;
+}
+
+/* whether a book's report fits room of just its length, and none that is shorter */
+static int is_reported(const struct call *call)
+{
+    uint8_t *text = (uint8_t *)room(OZP_REPORT_BYTES);
+    ozp_text whole = ozp_report(call->book, call->due.book_bytes, text, OZP_REPORT_BYTES), fitted, cut;
+    free(text);
+    text = (uint8_t *)room(whole.bytes);
+    fitted = ozp_report(call->book, call->due.book_bytes, text, whole.bytes);
+    cut = ozp_report(call->book, call->due.book_bytes, text, whole.bytes - 1);
+    free(text);
+    return whole.kind == OZP_GIVEN && fitted.kind == OZP_GIVEN && fitted.bytes == whole.bytes && cut.number == OZP_SHORT_ROOM;
 }
 
 /* what differs, or null */
@@ -99,9 +117,9 @@ static const char *difference(const struct call *call, ozp_answer a, const uint3
         whole += ozp_make_whole(a.kind, a.price, cleared[i], committed[i]);
     if (a.kind != OZP_REFUSED && whole != due->make_whole)
         return "the sum of make-whole";
-    if (due->rows > 0 && !(has_row(call, 0) && has_row(call, due->rows - 1)))
-        return "a row";
-    return has_row(call, due->rows) ? "the row past the last" : NULL;
+    if (due->rows > 0 && !(is_read(call, due->rows) && is_read(call, due->rows + 1) && !is_read(call, due->rows - 1)))
+        return "what is read";
+    return is_reported(call) ? NULL : "the report";
 }
 
 static void *replay(void *lent)

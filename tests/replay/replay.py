@@ -13,6 +13,7 @@ from concurrent.futures import ThreadPoolExecutor
 sys.path.insert(0, str(pathlib.Path(__file__).resolve().parents[2] / "bindings" / "python"))
 import ozpinduru  # noqa: E402
 
+library = ozpinduru._library.library
 HEAD = struct.Struct("<3Q10I")
 ANSWER = "make_whole daily year kind total price number place"
 Due = collections.namedtuple("Due", f"{ANSWER} book_bytes cleared_entries committed_entries filled rows")
@@ -34,27 +35,45 @@ def calls(data):
 def lent(due, book, filled):
     """What differs where the library is called as the module calls it, with buffers of just the lengths that are due."""
     cleared, committed = [(ctypes.c_uint32 * n)(*range(n)) for n in (due.cleared_entries, due.committed_entries)]
-    a = ozpinduru._library.ozp_clear(book, len(book), cleared, len(cleared), committed, len(committed))
+    a = library.ozp_clear(book, len(book), cleared, len(cleared), committed, len(committed))
     if any(getattr(a, name) != getattr(due, name) for name in ANSWER.split()):
         return "the answer"
+    if a.rows != (2**32 - 1 if due.kind == 3 else due.filled):
+        return "the number of rows"
     for buffer, entries in zip((cleared, committed), filled):
         if list(buffer) != [*entries, *range(len(entries), len(buffer))]:
             return "a buffer"
 
 
 def called(due, book, filled):
-    """What differs where the module's own functions are called; their buffers are never short."""
+    """What differs where the package's own functions are called; their buffers are never short."""
     price = due.price if due.kind == 1 else None
-    rows = [ozpinduru.Row(x, y, (price or 0) * (y - x)) for x, y in zip(*filled)]
+    amounts = [(x, y, (price or 0) * (y - x)) for x, y in zip(*filled)]
     try:
         answer = ozpinduru.clear(book)
-        same = answer == ozpinduru.Clearing(due.total, price, due.make_whole, due.daily, due.year, rows)
+        columns = ozpinduru.clear_columns(book)
+        same = [row[1:] for row in answer.rows] == amounts and [list(columns.cleared), list(columns.committed)] == \
+            [list(column) for column in filled] and ozpinduru.quote(book) == \
+            ozpinduru.Quote(due.total, price, due.make_whole, due.daily, due.year)
     except ozpinduru.Refusal as refusal:
         same = (refusal.number, refusal.place) == (due.number, due.place)
     if not same and due.number != ozpinduru.Fault.SHORT_BUFFER:
-        return "the module's answer"
-    if [ozpinduru.row(book, n) is None for n in (0, due.rows)] != [due.rows == 0, True]:
-        return "a row"
+        return "the package's answer"
+    return said(due, book)
+
+
+def said(due, book):
+    """What differs in what the package reads and reports."""
+    try:
+        offers = ozpinduru.read(book).offers
+    except ozpinduru.Refusal:
+        offers = []
+    if len(offers) != due.rows:
+        return "what is read"
+    report = ozpinduru.report(book)
+    lines = [f"refused {due.number} {due.place}"] if due.kind == 3 else [f"cleared {due.total}"]
+    if report.splitlines()[:1] != lines and due.number != ozpinduru.Fault.SHORT_BUFFER:
+        return "the report"
 
 
 def replay(*call):

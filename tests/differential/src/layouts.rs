@@ -1,0 +1,20 @@
+//! The structs as Rust lays them out.
+
+/// A line for each struct: its name in the header, its size and its alignment; then its fields, each with its offset.
+pub fn print() {
+    for (name, size, align, fields) in ozpinduru::raw::layouts() {
+        let fields: Vec<String> = fields.iter().map(|(field, offset)| format!(" {field} {offset}")).collect();
+        println!("ozp_{} {size} {align}{}", snake(name), fields.concat());
+    }
+}
+
+fn snake(name: &str) -> String {
+    let mut words = String::new();
+    for letter in name.chars() {
+        if letter.is_uppercase() && !words.is_empty() {
+            words.push('_');
+        }
+        words.extend(letter.to_lowercase());
+    }
+    words
+}
