@@ -1,5 +1,6 @@
 """The functions of the package. Run by: python3 -m unittest discover -s bindings/python/tests"""
 import ctypes
+import importlib.util
 import os
 import subprocess
 import sys
@@ -30,6 +31,14 @@ class Clears(unittest.TestCase):
             view = memoryview(column)
             self.assertEqual((view.format, view.itemsize, view.nbytes, view.contiguous), ("I", 4, 12, True))
             self.assertEqual(ctypes.addressof(ctypes.c_char.from_buffer(column)), column.buffer_info()[0])
+
+    @unittest.skipUnless(importlib.util.find_spec("numpy"), "NumPy is not here")
+    def test_columns_in_numpy(self):
+        import numpy
+        column = clear_columns(reference()).cleared
+        seen = numpy.frombuffer(column, numpy.uint32)
+        column[1] = 68
+        self.assertEqual(seen.tolist(), [9_900, 68, 33])
 
     def test_every_verdict(self):
         for name, data, verdict, count in verdicts():

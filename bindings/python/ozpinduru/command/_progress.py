@@ -1,7 +1,7 @@
 """A progress bar on standard error, where that is a terminal and there are many books."""
 import sys
 
-from ._streams import is_terminal
+from ._streams import hint, is_terminal
 
 MANY, WIDTH = 20, 40
 
@@ -14,12 +14,11 @@ class Bar:
     def hide(self) -> None:
         """Makes room for a line."""
         if self.shown:
-            sys.stderr.write("\r\033[K")
+            hint("\r\033[K")
 
     def step(self) -> None:
         """One book more is done."""
         self.done += 1
         if self.shown:
             filled = WIDTH * self.done // self.books
-            sys.stderr.write(f"\r[{'#' * filled:<{WIDTH}}] {self.done} of {self.books} books")
-            sys.stderr.flush()
+            hint(f"\r[{'#' * filled:<{WIDTH}}] {self.done} of {self.books} books")

@@ -40,12 +40,17 @@ def _drop(error: OSError) -> None:
     raise Unwritable(f"standard output: {error.strerror}") from error
 
 
-def complain(text: str, name: str = "ozp") -> None:
-    """Writes one line to standard error, where that can be written."""
+def hint(text: str) -> None:
+    """Writes to standard error, where that can be written."""
     try:
-        print(f"{name}: {' '.join(text.split())}", file=sys.stderr, flush=True)
+        print(text, end="", file=sys.stderr, flush=True)
     except (OSError, ValueError):
         pass
+
+
+def complain(text: str, name: str = "ozp") -> None:
+    """Writes one line to standard error."""
+    hint(f"{name}: {' '.join(text.split())}\n")
 
 
 def is_terminal(stream: object) -> bool:
