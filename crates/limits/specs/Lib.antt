@@ -1,4 +1,5 @@
 pub mod Parameters
+pub mod Given
 pub mod Repeats
 pub mod Flags
 pub mod Offers

@@ -1,21 +1,19 @@
 -- What the plain structs keep of the answers.
 --
--- In order: answers that are exported alike are the same answer; a row's make-whole can be had from an exported answer; the
--- exported call decides its answer and both buffers.
+-- In order: answers that are exported alike are the same answer, of as many rows; a row's make-whole can be had from an exported
+-- answer.
 -- Assumes nothing.
-use mathlib.Core.Path.{_≡_, refl, sym, ap, _∙_}
-use mathlib.Core.List.{List}
+use mathlib.Core.Path.{_≡_, refl, sym, ap}
 use Prim.Native.Nat.{ℕ, _-_}
 use native.Mathlib.Omega.{arith}
 use Rattle.auction.specs.Settlement.{mills}
 use Rattle.market.specs.declared.price.ClearingPrice.{ClearingPrice}
 use Rattle.market.specs.declared.price.ClearingPrice.the-variants.{Price, NoPrice}
 use Rattle.settle.specs.Read.{quoted}
-use Rattle.ozpinduru.specs.Export.{clearingKind, clearingCents, exported, exportedMakeWhole, Returned}
+use Rattle.ozpinduru.specs.Export.{clearingKind, clearingCents, exported, exportedMakeWhole}
 use Rattle.sale.specs.declared.Clearing.{Clearing}
 use Rattle.call.specs.declared.Answer.{Answer}
 use Rattle.call.specs.declared.Answer.the-variants.{Cleared as Answer·Cleared, Refused as Answer·Refused}
-use Rattle.ozpinduru.specs.declared.export.OzpAnswer.{OzpAnswer}
 
 -- the kind and the cents tell the price: no price is told by its kind, whatever stands for the cents
 price-told : (p q : ClearingPrice) → clearingKind p ≡ clearingKind q → clearingCents p ≡ clearingCents q → p ≡ q
@@ -36,14 +34,14 @@ kinds-differ (Price p) e = omega arith
 kinds-differ NoPrice e = omega arith
 
 -- Answers that are exported alike are the same answer: nothing is lost, and no field needs to be in any range.
-pub exported-injective : (a b : Answer) → exported a ≡ exported b → a ≡ b
-exported-injective (Answer·Cleared c) (Answer·Cleared d) e =
+pub exported-injective : (a b : Answer) (rows more : ℕ) → exported a rows ≡ exported b more → a ≡ b
+exported-injective (Answer·Cleared c) (Answer·Cleared d) rows more e =
     let price = price-told (c .price) (d .price) (λ i. e i .kind) (λ i. e i .price) in
     ap Answer·Cleared
     (clearing-told c d (λ i. e i .total) price (λ i. e i .«make_whole») (λ i. e i .daily) (λ i. e i .year))
-exported-injective (Answer·Cleared c) (Answer·Refused n p) e = absurd (kinds-differ (c .price) (λ i. e i .kind))
-exported-injective (Answer·Refused n p) (Answer·Cleared d) e = absurd (kinds-differ (d .price) (sym (λ i. e i .kind)))
-exported-injective (Answer·Refused n p) (Answer·Refused m q) e = λ i. Answer·Refused (e i .number) (e i .place)
+exported-injective (Answer·Cleared c) (Answer·Refused n p) rows more e = absurd (kinds-differ (c .price) (λ i. e i .kind))
+exported-injective (Answer·Refused n p) (Answer·Cleared d) rows more e = absurd (kinds-differ (d .price) (sym (λ i. e i .kind)))
+exported-injective (Answer·Refused n p) (Answer·Refused m q) rows more e = λ i. Answer·Refused (e i .number) (e i .place)
 
 make-whole-told : (p : ClearingPrice) (cleared committed : ℕ)
     → exportedMakeWhole (clearingKind p) (clearingCents p) cleared committed ≡ mills (quoted p) (committed - cleared)
@@ -51,18 +49,12 @@ unfolding exportedMakeWhole
 make-whole-told (Price p) cleared committed = refl
 make-whole-told NoPrice cleared committed = refl
 
--- A row's make-whole can be had from the kind and the price of an exported clearing.
-pub exported-make-whole : (c : Clearing) (cleared committed : ℕ)
-    → exportedMakeWhole (exported (Answer·Cleared c) .kind) (exported (Answer·Cleared c) .price) cleared committed
-    ≡ mills (quoted (c .price)) (committed - cleared)
-exported-make-whole c = make-whole-told (c .price)
+-- and so is the number of rows, where there is a clearing
+pub exported-rows : (c d : Clearing) (rows more : ℕ) → exported (Answer·Cleared c) rows ≡ exported (Answer·Cleared d) more → rows ≡ more
+exported-rows c d rows more e = λ i. e i .rows
 
--- Any two outcomes that the exported call may have are the same: what it returns, and both buffers.
-pub returned-decided : (b cleared committed : List ℕ) (r s : OzpAnswer) (cleared₁ committed₁ cleared₂ committed₂ : List ℕ)
-    → Returned b cleared committed r cleared₁ committed₁ → Returned b cleared committed s cleared₂ committed₂
-    → (r ≡ s) × (cleared₁ ≡ cleared₂) × (committed₁ ≡ committed₂)
-returned-decided b cleared committed r s cleared₁ committed₁ cleared₂ committed₂ x y = (
-  x .answer ∙ sym (y .answer),
-  x .outcome .cleared-holds ∙ sym (y .outcome .cleared-holds),
-  x .outcome .committed-holds ∙ sym (y .outcome .committed-holds),
-)
+-- A row's make-whole can be had from the kind and the price of an exported clearing.
+pub exported-make-whole : (c : Clearing) (rows cleared committed : ℕ)
+    → exportedMakeWhole (exported (Answer·Cleared c) rows .kind) (exported (Answer·Cleared c) rows .price) cleared committed
+    ≡ mills (quoted (c .price)) (committed - cleared)
+exported-make-whole c rows = make-whole-told (c .price)

@@ -1,22 +1,22 @@
 -- What each way through an exported function shows.
 --
--- In order: a row that the reader hands back, and one that it doesn't; parameters of which every one is given, refused or not;
--- make-whole by the kind of an answer.
+-- In order: the number of rows of an answer; parameters, refused or not; make-whole by the kind of an answer; values by their
+-- kind.
 -- Assumes nothing.
-use mathlib.Core.Path.{_≡_, refl, sym, ap, subst, _∙_}
-use mathlib.Core.List.{List, []}
+use mathlib.Core.Path.{_≡_, refl, sym, ap, ap₂, subst, _∙_}
+use mathlib.Core.List.{List}
 use mathlib.Core.Option.{none, some}
 use Prim.Native.Nat.{ℕ, _-_, _≤_, _<_}
-use native.Mathlib.Omega.{arith}
 use lib.ListN.{length}
 use borrow.Author.Tests.{lt-ltb, le-ltb, eq-eqb, ne-eqb}
-use Rattle.laws.proofs.Cases.{by-order}
 use Rattle.auction.specs.Settlement.{mills}
-use Rattle.values.specs.Place.{offerOf}
+use Rattle.values.specs.declared.Value.the-variants.{Given, Missing}
 use Rattle.values.specs.declared.Verdict.{Verdict}
 use Rattle.values.specs.declared.Verdict.the-variants.{Passed, Refused}
 use Rattle.values.specs.declared.head.Parameters.{Parameters}
-use Rattle.limits.specs.Parameters.{missingFault, rangeFault}
+use Rattle.values.proofs.Firsts.{andThen-left, andThen-right}
+use Rattle.limits.specs.Parameters.{missingFault}
+use Rattle.limits.specs.Given.{parametersFault}
 use Rattle.limits.proofs.Passing.{parameters-ranged}
 use Rattle.curve.specs.Points.{InRange}
 use Rattle.curve.specs.Shape.{curve2026}
@@ -24,75 +24,75 @@ use Rattle.curve.specs.Price.{curvePrice}
 use Rattle.curve.specs.declared.Curve.{Curve}
 use Rattle.curve.specs.declared.CurvePrice.{CurvePrice}
 use Rattle.curve.specs.declared.Terms.{Terms}
-use Rattle.layout.specs.Form.{offerCount, formFault, ownBytes}
-use Rattle.layout.specs.Read.{bookOffer}
-use Rattle.layout.proofs.Handed.{row-part-refused, row-part-past, row-part-there, row-part-length}
+use Rattle.layout.specs.Form.{offerCount}
+use Rattle.layout.proofs.Passing.{form-passed-length}
+use Rattle.book.specs.Faults.{firstFault}
+use Rattle.book.proofs.Accepted.{accepted-form}
 use Rattle.sale.specs.Auction.{termsOf}
-use Rattle.ozpinduru.specs.Export.{exportedOffer, noRow, exportedRow, exportedMakeWhole, noAmount}
-use Rattle.ozpinduru.specs.Plotted.{allGiven, pointsOf, pointsRefused, exportedCurve, plottedPrice, priceRefused, exportedPrice}
+use Rattle.sale.specs.declared.Clearing.{Clearing}
+use Rattle.call.specs.Answer.{answerBy, answerOf, callFault}
+use Rattle.call.specs.declared.Answer.{Answer}
+use Rattle.call.specs.declared.Answer.the-variants.{Cleared as Answer·Cleared}
+use Rattle.call.proofs.Calls.{passed-callable}
 use Rattle.call.proofs.Clearables.{terms-in-range}
+use Rattle.ozpinduru.specs.Export.{exported, answerTo, rowsStated, exportedMakeWhole, noAmount, noValue}
+use Rattle.ozpinduru.specs.Given.{valueIn}
+use Rattle.ozpinduru.specs.Plotted.{pointsOf, pointsRefused, exportedCurve, plottedPrice, priceRefused, exportedPrice}
+use Rattle.ozpinduru.specs.declared.structs.OzpValue.{OzpValue}
 
--- ---- a row
+-- ---- the number of rows
 
--- a test that passed, or one that refused
-by-verdict {ℓ} : {X : Type ℓ} (v : Verdict) → (v ≡ Passed → X) → ((number place : ℕ) → v ≡ Refused number place → X) → X
-by-verdict Passed f g = f refl
-by-verdict (Refused number place) f g = g number place refl
+-- a book of one block at least states its number of offers there
+pub rows-stated : (b : List ℕ) → 512 ≤ length b → offerCount b ≡ rowsStated b
+unfolding rowsStated
+rows-stated b h = rw (le-ltb (length b) 512 h)
 
-module _ (b : List ℕ) (row : ℕ) where
-  shown-refused : (number place : ℕ) → formFault b ≡ Refused number place → noRow ≡ exportedRow b row
-  unfolding exportedRow
-  shown-refused number place e = rw e
+-- and a shorter one states nothing
+pub rows-unstated : (b : List ℕ) → length b < 512 → noValue ≡ rowsStated b
+unfolding rowsStated
+rows-unstated b l = rw (lt-ltb (length b) 512 l)
 
-  shown-past : formFault b ≡ Passed → offerCount b ≤ row → noRow ≡ exportedRow b row
-  unfolding exportedRow
-  shown-past e h = rw (e, le-ltb row (offerCount b) h)
+-- a clearing by another name
+pub cleared-told : {a : Answer} {c : Clearing} (rows : ℕ) → a ≡ Answer·Cleared c → exported (Answer·Cleared c) rows ≡ exported a rows
+cleared-told rows e = ap (λ (x : Answer). exported x rows) (sym e)
 
-  shown-there : formFault b ≡ Passed → row < offerCount b → exportedOffer (bookOffer b row) ≡ exportedRow b row
-  unfolding exportedRow
-  shown-there e h = rw (e, lt-ltb row (offerCount b) h)
+-- where no test refuses, the number of offers is shown, and on a refusal none is
+shown-by : (b : List ℕ) (v : Verdict) (c : Clearing) → (v ≡ Passed → 512 ≤ length b)
+    → exported (answerBy v c) (rowsStated b) ≡ exported (answerBy v c) (offerCount b)
+shown-by b Passed c long = ap (exported (Answer·Cleared c)) (sym (rows-stated b (long refl)))
+shown-by b (Refused number place) c long = refl
 
-  -- the row is there, or nothing is handed back and no row is shown
-  by-row {ℓ} : {X : Type ℓ} → (formFault b ≡ Passed → row < offerCount b → X)
-      → (ownBytes b row ≡ [] → noRow ≡ exportedRow b row → X) → X
-  by-row there gone =
-      by-verdict (formFault b)
-      (λ e. by-order (offerCount b) row (λ h. gone (row-part-past b row e h) (shown-past e h)) (λ l. there e l))
-      (λ number place e. gone (row-part-refused b row number place e) (shown-refused number place e))
+accepted-long : (b : List ℕ) → firstFault b ≡ Passed → 512 ≤ length b
+accepted-long b e = form-passed-length b (accepted-form b e)
 
-  module _ (part : List ℕ) (own : part ≡ ownBytes b row) where
-    -- an empty part: there is no row
-    pub handed-nothing : length part ≡ 0 → noRow ≡ exportedRow b row
-    handed-nothing z =
-        by-row (λ e l. absurd (omega (arith, z, ap length own, row-part-length b row e l))) (λ empty shown. shown)
+-- of a call with result buffers, and of one with none
+pub shown-call : (b : List ℕ) (cleared committed rows : ℕ) (a : Answer) → a ≡ answerTo b cleared committed → rows ≡ rowsStated b
+    → exported a rows ≡ exported (answerTo b cleared committed) (offerCount b)
+shown-call b cleared committed rows a e f =
+    ap₂ exported e f
+    ∙ shown-by b (callFault b cleared committed) _
+    (λ passed. accepted-long b (passed-callable b cleared committed passed .accepted))
 
-    -- a part that isn't empty has a place's bytes
-    pub handed-long : (length part ≡ 0 → ⊥) → 32 ≤ length part
-    handed-long any =
-        by-row (λ e l. omega (arith, ap length own, row-part-length b row e l)) (λ empty shown. absurd (any (ap length (own ∙ empty))))
+pub shown-quote : (b : List ℕ) (rows : ℕ) (a : Answer) → a ≡ answerOf b → rows ≡ rowsStated b
+    → exported a rows ≡ exported (answerOf b) (offerCount b)
+shown-quote b rows a e f = ap₂ exported e f ∙ shown-by b (firstFault b) _ (accepted-long b)
 
-    -- and its offer is the row's
-    pub handed-offer : (length part ≡ 0 → ⊥) → exportedOffer (offerOf part) ≡ exportedRow b row
-    unfolding bookOffer
-    handed-offer any =
-        by-row (λ e l. ap (λ (s : List ℕ). exportedOffer (offerOf s)) (own ∙ row-part-there b row e l) ∙ shown-there e l)
-        (λ empty shown. absurd (any (ap length (own ∙ empty))))
+-- ---- parameters
 
--- ---- parameters of which every one is given
-
--- none of them is missing
-pub none-missing : (year cost offset outage requirement : ℕ) → missingFault (allGiven year cost offset outage requirement) ≡ Passed
-unfolding missingFault
-none-missing year cost offset outage requirement = refl
+-- parameters that pass have terms in range
+passed-in-range : (p : Parameters) → parametersFault p ≡ Passed → InRange (termsOf p)
+unfolding parametersFault
+passed-in-range p e =
+    terms-in-range p (parameters-ranged p (andThen-left (missingFault p) _ e) (andThen-right (missingFault p) _ e))
 
 -- what the code made and tested: p are the parameters that were given, and v is their fault
-module _ (given p : Parameters) (same : p ≡ given) (v : Verdict) (found : v ≡ rangeFault p) where
-  fault : {w : Verdict} → v ≡ w → rangeFault given ≡ w
-  fault told = sym (found ∙ ap rangeFault same) ∙ told
+module _ (given p : Parameters) (same : p ≡ given) (v : Verdict) (found : v ≡ parametersFault p) where
+  fault : {w : Verdict} → v ≡ w → parametersFault given ≡ w
+  fault told = sym (found ∙ ap parametersFault same) ∙ told
 
   -- where they pass, the terms that the code read are in range
-  pub given-in-range : missingFault given ≡ Passed → v ≡ Passed → (t : Terms) → t ≡ termsOf p → InRange t
-  given-in-range all told t e = subst InRange (sym (e ∙ ap termsOf same)) (terms-in-range given (parameters-ranged given all (fault told)))
+  pub given-in-range : v ≡ Passed → (t : Terms) → t ≡ termsOf p → InRange t
+  given-in-range told t e = subst InRange (sym (e ∙ ap termsOf same)) (passed-in-range given (fault told))
 
   -- where they are refused, there are no points and no price
   pub curve-refused : (number place : ℕ) → v ≡ Refused number place → pointsRefused number place ≡ exportedCurve given
@@ -132,3 +132,19 @@ module _ (kind price cleared committed : ℕ) where
   pub whole-neither : (kind ≡ 1 → ⊥) → (kind ≡ 2 → ⊥) → noAmount ≡ exportedMakeWhole kind price cleared committed
   unfolding exportedMakeWhole
   whole-neither n m = rw (ne-eqb kind 1 n, ne-eqb kind 2 m)
+
+-- ---- values
+
+module _ (v : OzpValue) where
+  -- given, missing, and of neither kind
+  pub value-given : v .kind ≡ 1 → Given (v .number) ≡ valueIn v
+  unfolding valueIn
+  value-given e = rw (eq-eqb (v .kind) 1 e)
+
+  pub value-missing : (v .kind ≡ 1 → ⊥) → v .kind ≡ 4 → Missing ≡ valueIn v
+  unfolding valueIn
+  value-missing n e = rw (ne-eqb (v .kind) 1 n, eq-eqb (v .kind) 4 e)
+
+  pub value-neither : (v .kind ≡ 1 → ⊥) → (v .kind ≡ 4 → ⊥) → Given noValue ≡ valueIn v
+  unfolding valueIn
+  value-neither n m = rw (ne-eqb (v .kind) 1 n, ne-eqb (v .kind) 4 m)

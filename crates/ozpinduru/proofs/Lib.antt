@@ -1,2 +1,4 @@
 pub mod Exports
 pub mod Exported
+pub mod Listings
+pub mod Decided

@@ -1,2 +1,4 @@
 pub mod Export
+pub mod Given
 pub mod Plotted
+pub mod Listed

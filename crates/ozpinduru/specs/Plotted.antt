@@ -1,13 +1,12 @@
 -- What the exported functions return of a curve: plain structs of numbers, by the rules of Export.
 --
--- In order: parameters; the three points; the price at a quantity.
+-- In order: the three points; the price at a quantity.
 -- Assumes nothing.
 use Prim.Native.Nat.{ℕ}
-use Rattle.values.specs.declared.Value.the-variants.{Given}
 use Rattle.values.specs.declared.Verdict.{Verdict}
 use Rattle.values.specs.declared.Verdict.the-variants.{Passed, Refused}
 use Rattle.values.specs.declared.head.Parameters.{Parameters}
-use Rattle.limits.specs.Parameters.{rangeFault}
+use Rattle.limits.specs.Given.{parametersFault}
 use Rattle.curve.specs.Shape.{curve2026}
 use Rattle.curve.specs.Price.{curvePrice}
 use Rattle.curve.specs.declared.Curve.{Curve}
@@ -15,13 +14,8 @@ use Rattle.curve.specs.declared.CurvePrice.{CurvePrice}
 use Rattle.curve.specs.declared.CurvePrice.the-variants.{Price, NoPrice}
 use Rattle.sale.specs.Auction.{termsOf}
 use Rattle.ozpinduru.specs.Export.{noValue}
-use Rattle.ozpinduru.specs.declared.export.OzpCurve.{OzpCurve}
-use Rattle.ozpinduru.specs.declared.export.OzpPrice.{OzpPrice}
-
--- parameters of which every one is given
-abbrev pub allGiven : ℕ → ℕ → ℕ → ℕ → ℕ → Parameters
-allGiven year cost offset outage requirement =
-    record { year = year; cost = Given cost; offset = Given offset; outage = Given outage; requirement = Given requirement }
+use Rattle.ozpinduru.specs.declared.structs.OzpCurve.{OzpCurve}
+use Rattle.ozpinduru.specs.declared.structs.OzpPrice.{OzpPrice}
 
 -- the three points, the last of which stands at price 0
 abbrev pub pointsOf : Curve → OzpCurve
@@ -58,7 +52,7 @@ pointsBy (Refused number place) points = pointsRefused number place
 
 -- the points of the curve that parameters make, or the refusal of the parameters
 unfoldable pub exportedCurve : Parameters → OzpCurve
-exportedCurve p = pointsBy (rangeFault p) (pointsOf (curve2026 (termsOf p)))
+exportedCurve p = pointsBy (parametersFault p) (pointsOf (curve2026 (termsOf p)))
 
 -- ---- its price at a quantity
 
@@ -75,4 +69,4 @@ priceBy (Refused number place) price = priceRefused number place
 
 -- the price at k on the curve that parameters make, that there is none past Q3, or the refusal of the parameters
 unfoldable pub exportedPrice : Parameters → ℕ → OzpPrice
-exportedPrice p k = priceBy (rangeFault p) (plottedPrice (curvePrice (curve2026 (termsOf p)) k))
+exportedPrice p k = priceBy (parametersFault p) (plottedPrice (curvePrice (curve2026 (termsOf p)) k))

@@ -1,20 +1,26 @@
-// Answers and rows as plain structs of numbers. A field that has no value holds all ones.
-use crate::export::OzpAnswer;
-use crate::export::OzpRow;
+// Answers as plain structs of numbers. A field that has no value holds all ones.
+use crate::structs::NO_AMOUNT;
+use crate::structs::NO_VALUE;
+use crate::structs::OzpAnswer;
+use block::SIZE;
 use call::Answer;
+use layout::reader::offer_count;
 use market::price::ClearingPrice;
 use sale::Clearing;
-use values::Value;
-use values::number_held;
-use values::place::Offer;
 ghost use mathlib.Core.Path.{_≡_};
 ghost use Rattle.call.specs.declared.Answer.the-variants.{Cleared};
-ghost use Rattle.ozpinduru.specs.Export.{clearingKind, clearingCents, exported, valueKind, exportedOffer, noRow};
+ghost use Rattle.ozpinduru.specs.Export.{clearingKind, clearingCents, rowsStated, exported};
 
-// All ones, in 32 bits and in 64.
-pub const NO_VALUE: u32 = 4294967295;
-
-pub const NO_AMOUNT: u64 = 18446744073709551615;
+// The number of offers that a book states, where it has a block to state it in.
+pub fn rows_stated(book: &[u8]) -> u32
+    ensures { λ r. ⌜ r ≡ rowsStated (now (book .entry)) ⌝ }
+{
+    if book.len() < SIZE {
+        NO_VALUE
+    } else {
+        offer_count(book)
+    }
+}
 
 // 1 where a clearing has a price, 2 where it has none.
 fn clearing_kind(price: ClearingPrice) -> u32
@@ -37,8 +43,8 @@ fn clearing_cents(price: ClearingPrice) -> u32
 }
 
 // A clearing has every value but a refusal's.
-fn cleared(c: Clearing) -> OzpAnswer
-    ensures { λ r. ⌜ r ≡ exported (Cleared c) ⌝ }
+fn cleared(c: Clearing, rows: u32) -> OzpAnswer
+    ensures { λ r. ⌜ r ≡ exported (Cleared c) rows ⌝ }
 {
     let price = c.price;
     OzpAnswer {
@@ -48,17 +54,18 @@ fn cleared(c: Clearing) -> OzpAnswer
         kind: clearing_kind(price),
         total: c.total,
         price: clearing_cents(price),
+        rows,
         number: NO_VALUE,
         place: NO_VALUE,
     }
 }
 
-// What a call answers: a refusal has its number and its place, and no other value.
-pub fn answer(a: Answer) -> OzpAnswer
-    ensures { λ r. ⌜ r ≡ exported a ⌝ }
+// What a call answers for a book of so many rows: a refusal has its number and its place, and no other value.
+pub fn answer(a: Answer, rows: u32) -> OzpAnswer
+    ensures { λ r. ⌜ r ≡ exported a rows ⌝ }
 {
     match a {
-        Answer::Cleared(c) => cleared(c),
+        Answer::Cleared(c) => cleared(c, rows),
         Answer::Refused(number, place) => OzpAnswer {
             make_whole: NO_AMOUNT,
             daily: NO_AMOUNT,
@@ -66,54 +73,9 @@ pub fn answer(a: Answer) -> OzpAnswer
             kind: 3,
             total: NO_VALUE,
             price: NO_VALUE,
+            rows: NO_VALUE,
             number,
             place,
         },
-    }
-}
-
-// 1 where a value is given, 2 where it is missing.
-fn value_kind(v: Value) -> u32
-    ensures { λ r. ⌜ r ≡ valueKind v ⌝ }
-{
-    match v {
-        Value::Given(_) => 1,
-        Value::Missing => 2,
-    }
-}
-
-// The values of an offer.
-pub fn row(o: Offer) -> OzpRow
-    ensures { λ r. ⌜ r ≡ exportedOffer o ⌝ }
-{
-    let price = o.price;
-    let block = o.block;
-    OzpRow {
-        stamp: o.stamp,
-        kind: 1,
-        resource: o.resource,
-        seller: o.seller,
-        quantity: o.quantity,
-        price_kind: value_kind(price),
-        price: number_held(price),
-        block_kind: value_kind(block),
-        block: number_held(block),
-    }
-}
-
-// No row, and none of its values.
-pub fn no_row() -> OzpRow
-    ensures { λ r. ⌜ r ≡ noRow ⌝ }
-{
-    OzpRow {
-        stamp: NO_AMOUNT,
-        kind: 2,
-        resource: NO_VALUE,
-        seller: NO_VALUE,
-        quantity: NO_VALUE,
-        price_kind: 2,
-        price: NO_VALUE,
-        block_kind: 2,
-        block: NO_VALUE,
     }
 }

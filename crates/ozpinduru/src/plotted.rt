@@ -1,7 +1,7 @@
 // A curve as plain structs of numbers. A field that has no value holds all ones.
-use crate::export::OzpCurve;
-use crate::export::OzpPrice;
-use crate::plain::NO_VALUE;
+use crate::structs::NO_VALUE;
+use crate::structs::OzpCurve;
+use crate::structs::OzpPrice;
 use curve::Curve;
 use curve::CurvePrice;
 ghost use mathlib.Core.Path.{_≡_};

@@ -1,5 +1,7 @@
 -- `plain::answer` shows what a call answers, case by case.
 -- Assumes nothing.
+use mathlib.Core.Path.{_∙_}
+use Rattle.ozpinduru.proofs.Exports.{cleared-told}
 use borrow.Author.Needs.{needs}
 use Rattle.ozpinduru.proofs.plain.answer.Statement.{statement}
 use Rattle.ozpinduru.proofs.plain.answer.Tie as tie
@@ -14,7 +16,7 @@ enum-known-a-2 : tie.Need-enum-known-a-2
 enum-known-a-2 c = search needs
 
 returns : tie.Need-returns
-returns c = cc
+returns c = c .cleared .ensures ∙ cleared-told _ (c .before .before .a .given .1)
 
 returns-2 : tie.Need-returns-2
 returns-2 c = cc

@@ -1,0 +1,24 @@
+-- `row_at` shows the offer that a row's own bytes hold.
+-- Assumes nothing.
+use mathlib.Core.Path.{_∙_, ap}
+use Rattle.ozpinduru.specs.Listed.{offerOut}
+use Rattle.ozpinduru.proofs.Listings.{row-read}
+use borrow.Author.Needs.{needs}
+use Rattle.ozpinduru.proofs.listed.row_at.Statement.{statement}
+use Rattle.ozpinduru.proofs.listed.row_at.Tie as tie
+
+row-bytes-requires : tie.Need-row-bytes-requires
+row-bytes-requires c κs = search needs
+
+offer-in-requires : tie.Need-offer-in-requires
+offer-in-requires c κs = search needs
+
+offer-out-requires : tie.Need-offer-out-requires
+offer-out-requires c κs = search needs
+
+returns : tie.Need-returns
+returns c =
+    c .offer-out .ensures ∙ ap offerOut (c .before .offer-in .ensures) ∙ row-read _ _ _ (c .before .before .row-bytes .ensures .0)
+
+pub row-at-spec : {M : Type 1} → statement M
+row-at-spec = tie.close (tie.spec row-bytes-requires offer-in-requires offer-out-requires returns)
