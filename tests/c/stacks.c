@@ -18,6 +18,7 @@ static uint8_t book[ROOM];
 static size_t bytes;
 static struct buffers out;
 static ozp_row rows[ENTRIES];
+static ozp_parameters parameters;
 static uint8_t room[OZP_REPORT_BYTES];
 
 static void *call_nothing(void *lent) { return lent; }
@@ -26,11 +27,8 @@ static void *call_quote(void *lent) { ozp_quote(book, bytes); return lent; }
 static void *call_read(void *lent) { ozp_read(book, bytes, rows, ENTRIES); return lent; }
 static void *call_report(void *lent) { ozp_report(book, bytes, room, sizeof room); return lent; }
 static void *call_words(void *lent) { ozp_words(OZP_WRONG_LAYOUT, room, sizeof room); return lent; }
-static void *call_price_at(void *lent)
-{
-    ozp_price_at(ozp_read(book, bytes, rows, ENTRIES).parameters, 10000);
-    return lent;
-}
+static void *call_curve(void *lent) { ozp_curve(parameters); return lent; }
+static void *call_price_at(void *lent) { ozp_price_at(parameters, 10000); return lent; }
 
 /* the bytes of stack that a thread uses */
 static size_t used(void *(*call)(void *), uint8_t *stack)
@@ -52,8 +50,8 @@ static size_t used(void *(*call)(void *), uint8_t *stack)
 void stacks(const char *folder)
 {
     static const struct { const char *name; void *(*call)(void *); } calls[] = {
-        {"clear", call_clear}, {"quote", call_quote}, {"read", call_read}, {"price_at", call_price_at}, {"report", call_report},
-        {"words", call_words},
+        {"clear", call_clear}, {"quote", call_quote}, {"read", call_read}, {"curve", call_curve}, {"price_at", call_price_at},
+        {"report", call_report}, {"words", call_words},
     };
     static const char *const books[] = {"reference.book", "offers-600-length-20992.book"};
     void *stack = NULL;
@@ -65,6 +63,7 @@ void stacks(const char *folder)
         for (most = idle, k = 0; k < LENGTH(books); k++) {
             size_t now;
             bytes = read_book(folder, books[k], book);
+            parameters = ozp_read(book, bytes, rows, ENTRIES).parameters;
             now = used(calls[i].call, (uint8_t *)stack);
             most = now > most ? now : most;
         }

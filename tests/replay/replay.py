@@ -45,35 +45,54 @@ def lent(due, book, filled):
             return "a buffer"
 
 
+def decoded(book, count):
+    """The values of a book of so many rows, from its bytes, as the outline places them."""
+    year, *values, _, marks = struct.unpack_from("<H4IHB", book, 6)
+    offers = []
+    for n in range(count):
+        at = 512 * (1 + n // 15) + 28 + 32 * (n % 15)
+        resource, seller, price, quantity, block, stamp, own = struct.unpack_from("<5IQB", book, at)
+        offers.append(ozpinduru.Offer(resource, seller, price if own & 1 else None, quantity, block if own & 2 else None, stamp))
+    given = [value if marks >> bit & 1 else None for bit, value in enumerate(values)]
+    return ozpinduru.Book(ozpinduru.Parameters(year, *given), offers)
+
+
+def printed(due, rows):
+    """What the program `clear` prints."""
+    if due.kind == 3:
+        return f"refused {due.number} {due.place}\n"
+    price = due.price if due.kind == 1 else "-"
+    lines = [f"cleared {due.total}", f"price {price}", *(" ".join(map(str, row)) for row in rows)]
+    return "\n".join([*lines, f"daily {due.daily}", f"year {due.year}", ""])
+
+
+def read(due, book):
+    """What the package reads, or None where that differs from what the bytes say."""
+    try:
+        found = ozpinduru.read(book)
+    except ozpinduru.Refusal as refusal:
+        return [] if due.rows == 0 and refusal.number <= 3 else None
+    return found.offers if found == decoded(book, due.rows) else None
+
+
 def called(due, book, filled):
     """What differs where the package's own functions are called; their buffers are never short."""
-    price = due.price if due.kind == 1 else None
-    amounts = [(x, y, (price or 0) * (y - x)) for x, y in zip(*filled)]
+    offers, price = read(due, book), due.price if due.kind == 1 else None
+    if offers is None:
+        return "what is read"
+    if due.number == ozpinduru.Fault.SHORT_BUFFER:
+        return None
+    rows = [(offer.resource, x, y, (price or 0) * (y - x)) for offer, x, y in zip(offers, *filled)]
     try:
-        answer = ozpinduru.clear(book)
-        columns = ozpinduru.clear_columns(book)
-        same = [row[1:] for row in answer.rows] == amounts and [list(columns.cleared), list(columns.committed)] == \
-            [list(column) for column in filled] and ozpinduru.quote(book) == \
-            ozpinduru.Quote(due.total, price, due.make_whole, due.daily, due.year)
+        answer, columns = ozpinduru.clear(book), ozpinduru.clear_columns(book)
+        in_all = (due.total, price, due.make_whole, due.daily, due.year)
+        same = answer == ozpinduru.Clearing(*in_all, rows) and ozpinduru.quote(book) == ozpinduru.Quote(*in_all)
+        same = same and [tuple(columns.cleared), tuple(columns.committed)] == filled
     except ozpinduru.Refusal as refusal:
         same = (refusal.number, refusal.place) == (due.number, due.place)
-    if not same and due.number != ozpinduru.Fault.SHORT_BUFFER:
+    if not same:
         return "the package's answer"
-    return said(due, book)
-
-
-def said(due, book):
-    """What differs in what the package reads and reports."""
-    try:
-        offers = ozpinduru.read(book).offers
-    except ozpinduru.Refusal:
-        offers = []
-    if len(offers) != due.rows:
-        return "what is read"
-    report = ozpinduru.report(book)
-    lines = [f"refused {due.number} {due.place}"] if due.kind == 3 else [f"cleared {due.total}"]
-    if report.splitlines()[:1] != lines and due.number != ozpinduru.Fault.SHORT_BUFFER:
-        return "the report"
+    return None if ozpinduru.report(book) == printed(due, rows) else "the report"
 
 
 def replay(*call):
