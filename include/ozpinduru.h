@@ -12,7 +12,7 @@
  * the pointer is not followed and may be null; else it must be valid and aligned to its entries.
  *
  * No kind is 0, so a struct of zeros is no answer. A field that has no value holds all ones and never 0: a price of 0 is a
- * price. Look at the kind first. "No price" means one thing: nothing cleared. An offer whose price is missing is unpriced.
+ * price. Look at the kind first. A clearing that has no price cleared nothing; an offer whose price is missing is unpriced.
  *
  * Versions 0.x may change; ozp_version says which one is linked.
  */

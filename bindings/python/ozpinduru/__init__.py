@@ -1,7 +1,7 @@
 """Clears a capacity auction: a book of bytes goes in; cleared amounts, the price and the payments come out.
 
-Quantities are tenths of a megawatt, prices cents per MW-day, amounts of money mills (tenths of a cent). What is missing is
-None, never 0; a price of None means one thing, that nothing cleared.
+Quantities are tenths of a megawatt, prices cents per MW-day, amounts of money mills (tenths of a cent). What is not
+there is None, never 0: a clearing with no price cleared nothing, and an offer whose price is missing is unpriced.
 """
 from ._book import Book, Offer, Parameters, read
 from ._clearing import Clearing, Columns, Quote, Row, clear, clear_columns, quote

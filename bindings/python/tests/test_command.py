@@ -55,6 +55,10 @@ class Says(unittest.TestCase):
                          {"resource": 13, "cleared": 33, "committed": 50, "make_whole": 637_500})
         self.assertEqual(json.loads(ozp(*GIVEN, "--json", "--at", "10451")[1])["price_at"], None)
 
+    def test_example(self):
+        done = subprocess.run([sys.executable, str(PYTHON / "example.py")], capture_output=True, text=True, check=True)
+        self.assertEqual(done.stdout.splitlines()[0], "cleared 1000.0 MW at $375.00 per MW-day")
+
     def test_help(self):
         for words in ([], ["clear"], ["rows"], ["curve"]):
             status, said, wrong = ozp(*words, "--help")

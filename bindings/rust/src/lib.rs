@@ -1,6 +1,6 @@
 //! Clears a capacity auction: an offer book goes in as bytes; cleared megawatts, the price and the make-whole payments come
-//! out. Every answer is the proved library's own; this crate gives its numbers Rust's types. What is missing is `None`, and
-//! never 0; a price that is `None` means one thing, that nothing cleared.
+//! out. Every answer is the proved library's own; this crate gives its numbers Rust's types. What is not there is
+//! `None`, never 0: a clearing with no price cleared nothing, and an offer whose price is missing is unpriced.
 //!
 //! ```
 //! use ozpinduru::{clear, CentsPerMwDay, Mills, Tenths};
