@@ -1,7 +1,7 @@
 """What each row of a book clears, commits and is paid to be made whole.
 
-With --json: book, total, price and the list rows, each with resource, cleared and committed (tenths of a megawatt) and
-make_whole (mills a day); a refused book has "refused": number, place, where and when.
+With --json: what `ozp clear --json` has, and the list rows, each with resource, cleared and committed (tenths of a megawatt)
+and make_whole (mills a day).
 """
 import argparse
 
@@ -19,8 +19,7 @@ def _answer(book: bytes) -> Answer:
     lines = [sold(c.total, c.price), _FORM.format("row", "resource", "cleared", "committed", "make-whole a day")]
     for at, row in enumerate(c.rows):
         lines.append(_FORM.format(at, row.resource, megawatts(row.cleared), megawatts(row.committed), money(row.make_whole)))
-    values = {"total": c.total, "price": c.price, "rows": [row._asdict() for row in c.rows]}
-    return "\n".join(lines), values
+    return "\n".join(lines), {**vars(c), "rows": [row._asdict() for row in c.rows]}
 
 
 def run(asked: argparse.Namespace) -> int:
