@@ -2,3 +2,5 @@ pub mod Export
 pub mod Given
 pub mod Plotted
 pub mod Listed
+pub mod Texts
+pub mod Words

@@ -6,3 +6,4 @@ pub mod plain;
 pub mod plotted;
 pub mod read;
 pub mod structs;
+pub mod texts;

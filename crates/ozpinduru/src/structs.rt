@@ -83,3 +83,12 @@ pub struct OzpContents {
     pub place: u32,
     pub parameters: OzpParameters,
 }
+
+// A text in room that the caller lends: how many bytes it has.
+#[repr(C)]
+pub struct OzpText {
+    pub bytes: u64,
+    pub kind: u32,
+    pub number: u32,
+    pub place: u32,
+}

@@ -44,6 +44,10 @@ repeatedResource row = Refused 8 row
 abbrev pub shortBuffer : ℕ → Verdict
 shortBuffer buffer = Refused 9 buffer
 
+-- 20: the room lent is too small; place 0
+abbrev pub shortRoom : Verdict
+shortRoom = Refused 20 0
+
 -- ---- order
 
 -- a test that holds, or else the refusal
