@@ -7,27 +7,12 @@
  */
 #define _POSIX_C_SOURCE 200112L
 
-#include <ozpinduru.h>
+#include "replay.h"
 
-#include <pthread.h>
 #include <stdio.h>
 #include <stdlib.h>
 
-/* a call's head, as it is written: 64 bytes, with no gap */
-struct head {
-    uint64_t make_whole, daily, year;
-    uint32_t kind, total, price, number, place;
-    uint32_t book_bytes, cleared_entries, committed_entries, filled, rows;
-};
-
-struct call {
-    struct head due;
-    uint8_t *book;
-    uint32_t *cleared, *committed; /* the entries that are filled */
-    pthread_barrier_t start;
-};
-
-static void *room(size_t bytes)
+void *room(size_t bytes)
 {
     void *room = malloc(bytes);
     if (room == NULL && bytes > 0) {
@@ -77,28 +62,6 @@ static int same(ozp_answer a, const struct head *due)
     return a.make_whole == due->make_whole && a.daily == due->daily && a.year == due->year && a.kind == due->kind
            && a.total == due->total && a.price == due->price && a.number == due->number && a.place == due->place
            && a.rows == (due->kind == OZP_REFUSED ? OZP_NO_VALUE : due->filled);
-}
-
-/* whether a book is read into so many entries */
-static int is_read(const struct call *call, size_t entries)
-{
-    ozp_row *rows = (ozp_row *)room(entries * sizeof *rows);
-    ozp_contents contents = ozp_read(call->book, call->due.book_bytes, rows, entries);
-    free(rows);
-    return contents.kind == OZP_GIVEN && contents.rows == call->due.rows;
-}
-
-/* whether a book's report fits room of just its length, and none that is shorter */
-static int is_reported(const struct call *call)
-{
-    uint8_t *text = (uint8_t *)room(OZP_REPORT_BYTES);
-    ozp_text whole = ozp_report(call->book, call->due.book_bytes, text, OZP_REPORT_BYTES), fitted, cut;
-    free(text);
-    text = (uint8_t *)room(whole.bytes);
-    fitted = ozp_report(call->book, call->due.book_bytes, text, whole.bytes);
-    cut = ozp_report(call->book, call->due.book_bytes, text, whole.bytes - 1);
-    free(text);
-    return whole.kind == OZP_GIVEN && fitted.kind == OZP_GIVEN && fitted.bytes == whole.bytes && cut.number == OZP_SHORT_ROOM;
 }
 
 /* what differs, or null */

@@ -27,7 +27,8 @@ def ozp(*words, **streams):
 
 class Says(unittest.TestCase):
     def test_clear(self):
-        line = "cleared 1,000.0 MW at $375.00 per MW-day; make-whole $637.500 a day, paid $375,637.500 a day, $137,107,687.500 a year\n"
+        line = ("cleared 1,000.0 MW at $375.00 per MW-day; make-whole $637.500 a day, "
+                "paid $375,637.500 a day, $137,107,687.500 a year\n")
         self.assertEqual(ozp("clear", REFERENCE), (0, f"{REFERENCE}: {line}", ""))
         self.assertEqual(ozp("clear", "-", input=reference()), (0, f"-: {line}", ""))
         status, said, _ = ozp("clear", NOTHING)
