@@ -59,7 +59,7 @@ enum {
     OZP_UNPRICED_OFFER = 6,         /* an offer has no price; the row */
     OZP_OFFER_OUT_OF_RANGE = 7,     /* an offer value is out of range; the row */
     OZP_REPEATED_RESOURCE = 8,      /* a resource number stands in an earlier row; the row */
-    OZP_SHORT_BUFFER = 9,           /* a result buffer has fewer entries than offers; 1 cleared or rows, 2 committed */
+    OZP_SHORT_BUFFER = 9,           /* a result buffer has fewer entries than offers; 1 cleared, 2 committed */
     OZP_SHORT_ROOM = 20             /* the room lent is too small; 0 */
 };
 

@@ -1,4 +1,4 @@
-/* Prints the size and the alignment of every struct of the header, and the offset of every field. */
+/* Prints the constants of the header, the size and the alignment of every struct, and the offset of every field. */
 #include <ozpinduru.h>
 
 #include <stddef.h>
@@ -15,6 +15,13 @@
     } while (0)
 #define FIELD(type, field) printf(" %s %d", #field, (int)offsetof(type, field))
 #define LAST(type, field) printf(" %s %d\n", #field, (int)offsetof(type, field))
+
+static void constants(void)
+{
+    printf("constants %d %d %d %d", OZP_GIVEN, OZP_NONE, OZP_REFUSED, OZP_MISSING);
+    printf(" %d %d %d %d", OZP_BOOK_BYTES, OZP_ROWS, OZP_REPORT_BYTES, OZP_WORDS_BYTES);
+    printf(" %u %llu\n", (unsigned)OZP_NO_VALUE, (unsigned long long)OZP_NO_AMOUNT);
+}
 
 static void values(void)
 {
@@ -86,6 +93,7 @@ static void contents(void)
 
 int main(void)
 {
+    constants();
     values();
     answers();
     curves();

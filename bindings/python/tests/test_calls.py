@@ -2,13 +2,14 @@
 import ctypes
 import importlib.util
 import os
+import re
 import subprocess
 import sys
 import unittest
 from concurrent.futures import ThreadPoolExecutor
 from dataclasses import FrozenInstanceError, replace
 
-from shared import PYTHON, reference, verdicts
+from shared import PYTHON, ROOT, reference, verdicts
 from ozpinduru import (Book, Clearing, Columns, Curve, Fault, Offer, Parameters, Quote, Refusal, Row, clear, clear_columns, curve,
                        price_at, quote, read, report, version, words)
 from write_book import REFERENCE, THREE, book, many, offer
@@ -117,6 +118,13 @@ class Words(unittest.TestCase):
         self.assertEqual(report(book([])), "cleared 0\nprice -\ndaily 0\nyear 0\n")
         self.assertEqual(report(reference()).splitlines()[4], "13 33 50 637500")
         self.assertEqual(version(), "0.2.0")
+
+    def test_names_and_words_are_the_header_s(self):
+        header = (ROOT / "include" / "ozpinduru.h").read_text()
+        table = header[header.index("/* numbers of refusals"):header.index("/* fields")]
+        found = re.findall(r"OZP_(\w+) = (\d+),?\s*/\*\s*(.*?)\s*\*/", table, re.DOTALL)
+        self.assertEqual({name: int(number) for name, number, _ in found}, {fault.name: fault.value for fault in Fault})
+        self.assertEqual([" ".join(said.split()) for _, _, said in found], [words(int(number)) for _, number, _ in found])
 
     def test_misuse(self):
         for call in (lambda: clear(512), lambda: clear("RPMB"), lambda: price_at(GIVEN, 0.0), lambda: words("6"),

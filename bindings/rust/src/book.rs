@@ -4,7 +4,7 @@ use crate::raw;
 use crate::{CentsPerMwDay, DollarsPerMwYear, Refusal, Tenths};
 
 /// The most rows that a book has: buffers of so many entries are long enough for every book.
-pub const MOST_ROWS: usize = 600;
+pub const MOST_ROWS: usize = raw::ROWS;
 
 /// The parameters of a region; what is missing is none.
 #[derive(Clone, Copy, Debug, PartialEq, Eq)]

@@ -10,6 +10,15 @@ pub const REFUSED: u32 = 3;
 /// A value that the book or the caller leaves out.
 pub const MISSING: u32 = 4;
 
+/// The most bytes of a book.
+pub const BOOK_BYTES: usize = 20_992;
+/// The most rows of a book.
+pub const ROWS: usize = 600;
+/// Room for every text of `ozp_report`.
+pub const REPORT_BYTES: usize = 32_768;
+/// Room for every text of `ozp_words`.
+pub const WORDS_BYTES: usize = 256;
+
 /// What a field holds that has no value.
 pub const NO_VALUE: u32 = u32::MAX;
 /// What a 64-bit field holds that has no value.

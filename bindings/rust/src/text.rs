@@ -2,10 +2,6 @@
 
 use crate::raw;
 
-/// Room for every report, and for the words of every refusal.
-const REPORT: usize = 32_768;
-const WORDS: usize = 256;
-
 /// The text that the program `clear` prints for these bytes; a refusal is a text too.
 ///
 /// ```
@@ -13,7 +9,7 @@ const WORDS: usize = 256;
 /// ```
 pub fn report(book: &[u8]) -> String {
     // SAFETY: the call reads the book and writes the room, each within the length that is handed over, and keeps no pointer.
-    written(REPORT, |room| unsafe { raw::ozp_report(book.as_ptr(), book.len(), room.as_mut_ptr(), room.len()) })
+    written(raw::REPORT_BYTES, |room| unsafe { raw::ozp_report(book.as_ptr(), book.len(), room.as_mut_ptr(), room.len()) })
         .expect("every report fits its room")
 }
 
@@ -26,7 +22,7 @@ pub fn report(book: &[u8]) -> String {
 /// ```
 pub fn words(number: u32) -> Option<String> {
     // SAFETY: the call writes the room within the length that is handed over, and keeps no pointer.
-    written(WORDS, |room| unsafe { raw::ozp_words(number, room.as_mut_ptr(), room.len()) })
+    written(raw::WORDS_BYTES, |room| unsafe { raw::ozp_words(number, room.as_mut_ptr(), room.len()) })
 }
 
 /// The library's version: major, minor, patch.

@@ -11,7 +11,7 @@ const HELD: u8 = 0xA5;
 pub fn report(book: &[u8], rng: &mut Rng) -> Result<Vec<&'static str>, String> {
     let text = oracle::printed(book).into_bytes();
     let length = text.len();
-    let lent = rng.pick(&[length, length, length + 9, 32_768, length - 1, length / 2, 0]);
+    let lent = rng.pick(&[length, length, length + 9, raw::REPORT_BYTES, length - 1, length / 2, 0]);
     // Half of the rooms end with the bytes that are lent.
     let mut room = vec![HELD; lent + rng.pick(&[0, 64])];
     // SAFETY: the book and the room are lent with no more than their lengths.
