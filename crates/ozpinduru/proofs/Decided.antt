@@ -49,11 +49,14 @@ returned-same b cleared committed r s cleared₁ committed₁ cleared₂ committ
 )
 
 -- what a call returns, and both buffers, by the contract of `ozp_clear`
-pub ozp-clear-decided : (κs : Lfts 3) (book cleared committed cleared₁ committed₁ cleared₂ committed₂ : RefT (List ℕ)) (r s : OzpAnswer)
-    → ozp-clear.Post κs (book, (cleared, (committed, tt))) r (book, (cleared₁, (committed₁, tt)))
-    → ozp-clear.Post κs (book, (cleared, (committed, tt))) s (book, (cleared₂, (committed₂, tt)))
-    → (r ≡ s) × (now cleared₁ ≡ now cleared₂) × (now committed₁ ≡ now committed₂)
-ozp-clear-decided κs book cleared committed cleared₁ committed₁ cleared₂ committed₂ r s = returned-same _ _ _ _ _ _ _ _ _
+pub ozp-clear-decided : (κs : Lfts 3) (book₁ cleared₁ committed₁ book₂ cleared₂ committed₂ : RefT (List ℕ))
+    (cleared₁′ committed₁′ cleared₂′ committed₂′ : RefT (List ℕ)) (r s : OzpAnswer)
+    → now book₁ ≡ now book₂ → now cleared₁ ≡ now cleared₂ → now committed₁ ≡ now committed₂
+    → ozp-clear.Post κs (book₁, (cleared₁, (committed₁, tt))) r (book₁, (cleared₁′, (committed₁′, tt)))
+    → ozp-clear.Post κs (book₂, (cleared₂, (committed₂, tt))) s (book₂, (cleared₂′, (committed₂′, tt)))
+    → (r ≡ s) × (now cleared₁′ ≡ now cleared₂′) × (now committed₁′ ≡ now committed₂′)
+ozp-clear-decided κs book₁ cleared₁ committed₁ book₂ cleared₂ committed₂ cleared₁′ committed₁′ cleared₂′ committed₂′ r s e f g x y =
+    returned-same (now book₁) (now cleared₁) (now committed₁) _ _ _ _ _ _ x (rw (e, f, g) y)
 
 -- the answer with no buffers, by the contract of `ozp_quote`
 pub ozp-quote-decided : (κs : Lfts 1) (book other : RefT (List ℕ)) (r s : OzpAnswer)
@@ -91,18 +94,21 @@ told-same : (text room : List ℕ) (r s : OzpText) (room₁ room₂ : List ℕ) 
 told-same text room r s room₁ room₂ x y = (x .answered ∙ sym (y .answered), x .room-holds ∙ sym (y .room-holds))
 
 -- the words of a number and the room, by the contract of `ozp_words`
-pub ozp-words-decided : (κs : Lfts 1) (number : ℕ) (room room₁ room₂ : RefT (List ℕ)) (r s : OzpText)
-    → ozp-words.Post κs (number, (room, tt)) r (number, (room₁, tt))
-    → ozp-words.Post κs (number, (room, tt)) s (number, (room₂, tt))
-    → (r ≡ s) × (now room₁ ≡ now room₂)
-ozp-words-decided κs number room room₁ room₂ r s = told-same _ _ _ _ _ _
+pub ozp-words-decided : (κs : Lfts 1) (number : ℕ) (room₁ room₂ room₁′ room₂′ : RefT (List ℕ)) (r s : OzpText)
+    → now room₁ ≡ now room₂
+    → ozp-words.Post κs (number, (room₁, tt)) r (number, (room₁′, tt))
+    → ozp-words.Post κs (number, (room₂, tt)) s (number, (room₂′, tt))
+    → (r ≡ s) × (now room₁′ ≡ now room₂′)
+ozp-words-decided κs number room₁ room₂ room₁′ room₂′ r s e x y = told-same _ (now room₁) _ _ _ _ x (rw e y)
 
 -- the report of a book and the room, by the contract of `ozp_report`
-pub ozp-report-decided : (κs : Lfts 2) (book room room₁ room₂ : RefT (List ℕ)) (r s : OzpText)
-    → ozp-report.Post κs (book, (room, tt)) r (book, (room₁, tt))
-    → ozp-report.Post κs (book, (room, tt)) s (book, (room₂, tt))
-    → (r ≡ s) × (now room₁ ≡ now room₂)
-ozp-report-decided κs book room room₁ room₂ r s = told-same (reportText (now book)) _ _ _ _ _
+pub ozp-report-decided : (κs : Lfts 2) (book₁ room₁ book₂ room₂ room₁′ room₂′ : RefT (List ℕ)) (r s : OzpText)
+    → now book₁ ≡ now book₂ → now room₁ ≡ now room₂
+    → ozp-report.Post κs (book₁, (room₁, tt)) r (book₁, (room₁′, tt))
+    → ozp-report.Post κs (book₂, (room₂, tt)) s (book₂, (room₂′, tt))
+    → (r ≡ s) × (now room₁′ ≡ now room₂′)
+ozp-report-decided κs book₁ room₁ book₂ room₂ room₁′ room₂′ r s e f x y =
+    told-same (reportText (now book₁)) (now room₁) _ _ _ _ x (rw (e, f) y)
 
 -- ---- what a book says
 
@@ -111,16 +117,17 @@ read-same : (b : List ℕ) (rows : List OzpRow) (r s : OzpContents) (rows₁ row
 read-same b rows r s rows₁ rows₂ x y = (x .contents ∙ sym (y .contents), x .filled ∙ sym (y .filled))
 
 module _ {M : Type 1} (𝓤 : URA M) (H : Heap 𝓤) (A : Atoms 𝓤) (mem : Memory → SProp 𝓤) (run : Routine → Fun 𝓤)
-    (κs : Lfts 2) (book : RefT (List ℕ)) (rows : RefT (List OzpRow)) where
-  -- what the contract of `ozp_read` says of what is returned and of the array at exit
-  abbrev Promised : OzpContents → List OzpRow → SProp 𝓤
-  Promised r rows′ =
+    (κs : Lfts 2) where
+  -- what the contract of `ozp_read`, which speaks as the walk by hand does, says of what is returned and of the array at exit
+  abbrev Promised : RefT (List ℕ) → RefT (List OzpRow) → OzpContents → List OzpRow → SProp 𝓤
+  Promised book rows r rows′ =
       ozp-read.clauses 𝓤 H A mem run κs (book, (rows, tt)) .ensures tt r (atExit ozp-read.ended κs (book, (rows, tt)) (tt, (rows′, tt)))
 
-  -- where it says both, both are the same: what is returned, and the array
-  pub ozp-read-decided : (r s : OzpContents) (rows₁ rows₂ : List OzpRow)
-      → ent 𝓤 (conj 𝓤 (Promised r rows₁) (Promised s rows₂)) (fact 𝓤 ((r ≡ s) × (rows₁ ≡ rows₂)))
-  ozp-read-decided r s rows₁ rows₂ =
-      guard-conj 𝓤 (Read (now book) (now rows) r rows₁) (emp 𝓤) (Promised s rows₂)
-      (λ x. conj-guard 𝓤 (Read (now book) (now rows) s rows₂) (emp 𝓤) (emp 𝓤)
-      (λ y. factI 𝓤 _ _ (read-same (now book) (now rows) r s rows₁ rows₂ x y)))
+  -- where it says both of the same bytes and entries, both are the same: what is returned, and the array
+  pub ozp-read-decided : (book₁ book₂ : RefT (List ℕ)) (rows₁ rows₂ : RefT (List OzpRow)) (r s : OzpContents) (rows₁′ rows₂′ : List OzpRow)
+      → now book₁ ≡ now book₂ → now rows₁ ≡ now rows₂
+      → ent 𝓤 (conj 𝓤 (Promised book₁ rows₁ r rows₁′) (Promised book₂ rows₂ s rows₂′)) (fact 𝓤 ((r ≡ s) × (rows₁′ ≡ rows₂′)))
+  ozp-read-decided book₁ book₂ rows₁ rows₂ r s rows₁′ rows₂′ e f =
+      guard-conj 𝓤 (Read (now book₁) (now rows₁) r rows₁′) (emp 𝓤) (Promised book₂ rows₂ s rows₂′)
+      (λ x. conj-guard 𝓤 (Read (now book₂) (now rows₂) s rows₂′) (emp 𝓤) (emp 𝓤)
+      (λ y. factI 𝓤 _ _ (read-same (now book₁) (now rows₁) r s rows₁′ rows₂′ x (rw (e, f) y))))

@@ -1,15 +1,19 @@
 -- What is told of a text, by whether the room holds it.
 --
--- In order: no bytes; room that is too small; a text that was put; the same text by another name; the words of a number.
+-- In order: no bytes; room that is too small; a text that was put; the same text by another name; the words of a number, and
+-- room for those of every number.
 -- Assumes nothing.
 use mathlib.Core.Path.{_≡_, refl, sym, ap, _∙_}
+use mathlib.Core.Bool.{Bool, true, false, cond}
 use mathlib.Core.List.{List, [], _∷_, _++_}
 use Prim.Native.Nat.{ℕ, _+_, _≤_, _<_}
+use Prim.Native.String.{String}
 use native.Mathlib.Nat.{zero-add}
 use native.Mathlib.Omega.{arith}
+use lib.Dec.{eqb, leb}
 use lib.ListN.{length, drop}
 use lib.Seq.{paste, take-length}
-use borrow.Author.Tests.{le-leb, lt-leb, ne-eqb}
+use borrow.Author.Tests.{le-leb, lt-leb, leb-true, ne-eqb}
 use Rattle.text.specs.Put.{Written}
 use Rattle.text.proofs.Puts.{fits-buffer, fits-place}
 use Rattle.ozpinduru.specs.Words.{bytesOf, wordsOf}
@@ -72,3 +76,31 @@ words-none n a b c d e f g h i j =
       ne-eqb n 9 i,
       ne-eqb n 20 j,
     )
+
+-- ---- room for every refusal's words
+
+-- a text that 256 bytes hold
+abbrev Short : String → Type 0
+Short s = leb (length (bytesOf s)) 256 ≡ true
+
+either-short : (t : Bool) (s u : String) → Short s → Short u → Short (cond t s u)
+either-short true s u a b = a
+either-short false s u a b = b
+
+all-short : (n : ℕ) → Short (wordsOf n)
+unfolding wordsOf bytesOf
+all-short n =
+    either-short (eqb n 1) _ _ refl
+    (either-short (eqb n 2) _ _ refl
+    (either-short (eqb n 3) _ _ refl
+    (either-short (eqb n 4) _ _ refl
+    (either-short (eqb n 5) _ _ refl
+    (either-short (eqb n 6) _ _ refl
+    (either-short (eqb n 7) _ _ refl
+    (either-short (eqb n 8) _ _ refl
+    (either-short (eqb n 9) _ _ refl
+    (either-short (eqb n 20) _ _ refl refl)))))))))
+
+-- Room of 256 bytes holds the words of every number.
+pub words-fit : (n : ℕ) → length (bytesOf (wordsOf n)) ≤ 256
+words-fit n = leb-true _ 256 (all-short n)
