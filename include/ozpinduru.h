@@ -1,24 +1,21 @@
-/* ozpinduru: clears a capacity auction of one region from a book of bytes.
+/* ozpinduru: clears a capacity auction of one region from a book of bytes. For x86-64 Linux.
  *
- * Link target/staticlib/libozpinduru.a, which `rt staticlib ozpinduru` makes, for x86-64 Linux. Of the C library it uses
- * memcpy and memset.
+ * Units. Quantities are tenths of a megawatt, prices whole cents per MW-day, amounts mills (tenths of a cent), costs whole
+ * dollars per MW-year, the outage rate hundredths of a percent. No amount is rounded.
  *
- * Units. Quantities are tenths of a megawatt, prices whole cents per MW-day, amounts mills (tenths of a cent), costs
- * whole dollars per MW-year, the outage rate hundredths of a percent. No amount is rounded.
- *
- * A book is 512 to OZP_BOOK_BYTES bytes and has at most OZP_ROWS rows, counted from 0.
- *
- * Every function answers every input: whatever bytes, lengths and numbers it is given, it returns one answer, and its
- * answer is proved to be the one that is described here. None keeps state, allocates, or looks at anything but its
- * arguments, so any number of threads may call at once, also on the same book. The buffers of one call must not overlap
- * each other or the book, and nobody else may write the book or use the buffers while the call runs. A call uses some
- * 25 KiB of stack, as measured: no theorem bounds it, and tests/c runs calls on stacks of 64 KiB.
+ * Every function answers every input, and its answer is proved to be the one described here. None keeps state, allocates or
+ * looks at anything but its arguments, so any number of threads may call at once, also on one book. Of the C library they use
+ * memcpy and memset. The buffers of one call must not overlap each other or the book, and nobody else may write the book or
+ * use the buffers while the call runs. A call uses less than 32 KiB of stack, ozp_report less than 64: that is measured, and
+ * no theorem bounds it.
  *
  * A slice is a pointer and a number of entries, all of which may be read (and, of a buffer, written). Where the number is 0
- * the pointer is not followed and may be null; where it is not 0 the pointer must be valid and aligned to its entries.
+ * the pointer is not followed and may be null; else it must be valid and aligned to its entries.
  *
- * No kind is 0, so a struct of zeros is no answer. A field that has no value holds all ones, OZP_NO_VALUE or OZP_NO_AMOUNT,
- * and never 0: a price of 0 is a price. Look at the kind first.
+ * No kind is 0, so a struct of zeros is no answer. A field that has no value holds all ones and never 0: a price of 0 is a
+ * price. Look at the kind first. A clearing that has no price cleared nothing; an offer whose price is missing is unpriced.
+ *
+ * Versions 0.x may change; ozp_version says which one is linked.
  */
 #ifndef OZP_OZPINDURU_H
 #define OZP_OZPINDURU_H
@@ -30,18 +27,25 @@
 extern "C" {
 #endif
 
-#define OZP_BOOK_BYTES 20992
-#define OZP_ROWS 600
+#define OZP_VERSION_MAJOR 0
+#define OZP_VERSION_MINOR 2
+#define OZP_VERSION_PATCH 0
+#define OZP_VERSION (OZP_VERSION_MAJOR * 1000000 + OZP_VERSION_MINOR * 1000 + OZP_VERSION_PATCH)
 
-/* all ones: no value */
+#define OZP_BOOK_BYTES 20992   /* the most bytes of a book */
+#define OZP_ROWS 600           /* the most rows of a book, which count from 0 */
+#define OZP_REPORT_BYTES 32768 /* room for every text of ozp_report */
+#define OZP_WORDS_BYTES 256    /* room for every text of ozp_words */
+
 #define OZP_NO_VALUE UINT32_MAX
 #define OZP_NO_AMOUNT UINT64_MAX
 
 /* kinds */
 enum {
-    OZP_GIVEN = 1,  /* what was asked for is there */
-    OZP_NONE = 2,   /* there is none */
-    OZP_REFUSED = 3 /* the book or the parameters are refused: number and place say why */
+    OZP_GIVEN = 1,   /* what was asked for is there */
+    OZP_NONE = 2,    /* there is none */
+    OZP_REFUSED = 3, /* number and place say why */
+    OZP_MISSING = 4  /* a value that the book or the caller leaves out */
 };
 
 /* numbers of refusals; in the comment, what the place is */
@@ -52,96 +56,89 @@ enum {
                                        or a value marked absent is not zero; the block */
     OZP_MISSING_PARAMETER = 4,      /* a parameter is missing; the field */
     OZP_PARAMETER_OUT_OF_RANGE = 5, /* a parameter is out of range; the field */
-    OZP_NO_PRICE = 6,               /* an offer has no price; the row */
+    OZP_UNPRICED_OFFER = 6,         /* an offer has no price; the row */
     OZP_OFFER_OUT_OF_RANGE = 7,     /* an offer value is out of range; the row */
     OZP_REPEATED_RESOURCE = 8,      /* a resource number stands in an earlier row; the row */
-    OZP_SHORT_BUFFER = 9            /* a result buffer has fewer entries than offers; 1 cleared, 2 committed */
+    OZP_SHORT_BUFFER = 9,           /* a result buffer has fewer entries than offers; 1 cleared, 2 committed */
+    OZP_SHORT_ROOM = 20             /* the room lent is too small; 0 */
 };
 
 /* fields: the place of 4 and 5 */
 enum { OZP_YEAR = 1, OZP_COST = 2, OZP_OFFSET = 3, OZP_OUTAGE = 4, OZP_REQUIREMENT = 5 };
 
-/* What a book clears.
+/* A value that may be missing: OZP_GIVEN with its number, or OZP_MISSING, when the number is all ones on the way out and not
+ * looked at on the way in. On the way in any other kind is a value out of range. */
+typedef struct { uint32_t kind, number; } ozp_value;
+
+/* Parameters: the first calendar year, C, E, F and R. */
+typedef struct { uint32_t year; ozp_value cost, offset, outage, requirement; } ozp_parameters;
+
+/* A row of a book. With no block the offer is flexible. A stamp may be any number, also all ones. */
+typedef struct { uint64_t stamp; uint32_t resource, seller, quantity; ozp_value price, block; } ozp_row;
+
+/* What a book clears; amounts are of all rows, make_whole and daily by the day.
  *
- *   kind          make_whole, daily, year   total     price          number, place
- *   OZP_GIVEN     mills                     over 0    cents          no value
- *   OZP_NONE      0                         0         no value       no value
- *   OZP_REFUSED   no value                  no value  no value       the refusal's
+ *   kind          make_whole, daily, year   total     price      rows          number, place
+ *   OZP_GIVEN     mills                     over 0    cents      the book's    no value
+ *   OZP_NONE      0                         0         no value   the book's    no value
+ *   OZP_REFUSED   no value                  no value  no value   no value      the refusal's
  */
 typedef struct {
-    uint64_t make_whole; /* of all rows, a day */
-    uint64_t daily;      /* price times total, and all make-whole */
-    uint64_t year;       /* 365 times daily */
-    uint32_t kind;
-    uint32_t total;
-    uint32_t price;
-    uint32_t number;
-    uint32_t place;
+    uint64_t make_whole, daily, year;
+    uint32_t kind, total, price, rows, number, place;
 } ozp_answer;
 
-/* A row of a book. With kind OZP_NONE no field has a value, and price_kind and block_kind are OZP_NONE.
- * With no block the offer is flexible. */
-typedef struct {
-    uint64_t stamp; /* any number, also all ones */
-    uint32_t kind;
-    uint32_t resource;
-    uint32_t seller;
-    uint32_t quantity;
-    uint32_t price_kind; /* OZP_GIVEN, or OZP_NONE where the price is missing */
-    uint32_t price;
-    uint32_t block_kind; /* OZP_GIVEN, or OZP_NONE where the minimum block is missing */
-    uint32_t block;
-} ozp_row_values;
-
-/* The three points of a curve, (q1, p1), (q2, p2), (q3, p3). With kind OZP_GIVEN p3 is 0 and number and place have no value;
- * with kind OZP_REFUSED only number and place have one. */
-typedef struct {
-    uint32_t kind;
-    uint32_t p1;
-    uint32_t p2;
-    uint32_t p3;
-    uint32_t q1;
-    uint32_t q2;
-    uint32_t q3;
-    uint32_t number;
-    uint32_t place;
-} ozp_curve_points;
+/* The three points of a curve, (q1, p1), (q2, p2), (q3, p3): OZP_GIVEN, with p3 0, or OZP_REFUSED with number and place. */
+typedef struct { uint32_t kind, p1, p2, p3, q1, q2, q3, number, place; } ozp_curve_points;
 
 /* The price of a curve at a quantity: OZP_GIVEN with the price, OZP_NONE past q3, or OZP_REFUSED with number and place. */
-typedef struct {
-    uint32_t kind;
-    uint32_t price;
-    uint32_t number;
-    uint32_t place;
-} ozp_curve_price;
+typedef struct { uint32_t kind, price, number, place; } ozp_curve_price;
+
+/* What a book says: OZP_GIVEN with rows and parameters, or OZP_REFUSED with number and place, when the kind of every
+ * parameter is OZP_NONE. */
+typedef struct { uint32_t kind, rows, number, place; ozp_parameters parameters; } ozp_contents;
+
+/* A text in lent room: OZP_GIVEN with the count of bytes written, OZP_NONE with 0 where there is no such text, or OZP_REFUSED
+ * by OZP_SHORT_ROOM at 0. Only the bytes of the text are changed, none of a room that is too small; no zero ends the text. */
+typedef struct { uint64_t bytes; uint32_t kind, number, place; } ozp_text;
 
 /* Clears a book.
  *
  * On OZP_GIVEN and OZP_NONE entry i of `cleared` and of `committed` holds the cleared and the committed tenths of row i, for
  * every row of the book. The buffers may be longer than that: entries past the last row are not touched. On OZP_REFUSED both
  * buffers hold what they held. The refusal is the first in the order of the numbers: 1; 2 over all blocks, lowest first; 3
- * likewise; 4; 5 by field; rows from 0, each for 6, 7, 8; 9, `cleared` before `committed`. */
+ * likewise; 4 and 5 by field; rows from 0, each for 6, 7, 8; 9, `cleared` before `committed`. */
 ozp_answer ozp_clear(const uint8_t *book, size_t book_bytes, uint32_t *cleared, size_t cleared_entries, uint32_t *committed,
                      size_t committed_entries);
 
 /* What a book clears, with no result buffers: the answer that ozp_clear gives where both are long enough. */
 ozp_answer ozp_quote(const uint8_t *book, size_t book_bytes);
 
-/* The values of a row: OZP_GIVEN, or OZP_NONE where the book has no such row or is refused by 1 to 3. The values are those
- * that the bytes hold: a book that 4 to 8 refuse hands back its rows too, in range or not. */
-ozp_row_values ozp_row(const uint8_t *book, size_t book_bytes, size_t row);
+/* What a book says, for every book that passes 1 to 3, with its values in range or not: entry i of `rows` receives row i, and
+ * entries past the last row are not touched. Refused by 1, 2, 3, then by 9 at 1 where the book has more rows than there are
+ * entries; a refusal leaves the entries as they were. */
+ozp_contents ozp_read(const uint8_t *book, size_t book_bytes, ozp_row *rows, size_t row_entries);
 
-/* The curve that parameters make. The year is 2026 to 2099, cost 1 to 1,000,000, offset 0 to cost, outage 0 to 5,000 and
- * requirement 1,000 to 2,000,000; else the refusal is 5, at the lowest such field. */
-ozp_curve_points ozp_curve(uint32_t year, uint32_t cost, uint32_t offset, uint32_t outage, uint32_t requirement);
+/* The curve that parameters make. Refused by 4 at the lowest missing field; else by 5 at the lowest field out of range: the
+ * year is 2026 to 2099, C 1 to 1,000,000, E 0 to C, F 0 to 5,000 and R 1,000 to 2,000,000. */
+ozp_curve_points ozp_curve(ozp_parameters parameters);
 
 /* The price at quantity k of the curve that parameters make, refused as by ozp_curve. */
-ozp_curve_price ozp_price_at(uint32_t year, uint32_t cost, uint32_t offset, uint32_t outage, uint32_t requirement, uint32_t k);
+ozp_curve_price ozp_price_at(ozp_parameters parameters, uint32_t k);
 
 /* A row's make-whole in mills a day, from the kind and the price of the answer and the row's entries of the two buffers: with
  * OZP_GIVEN price times (committed minus cleared), 0 where committed is less; with OZP_NONE 0; with any other kind
  * OZP_NO_AMOUNT, which no product is. */
 uint64_t ozp_make_whole(uint32_t kind, uint32_t price, uint32_t cleared, uint32_t committed);
+
+/* The text that the program `clear` prints for these bytes; a refusal is a text too. */
+ozp_text ozp_report(const uint8_t *book, size_t book_bytes, uint8_t *room, size_t room_bytes);
+
+/* A refusal in words: when it is given, a semicolon, and what its place is, as in the comments above. */
+ozp_text ozp_words(uint32_t number, uint8_t *room, size_t room_bytes);
+
+/* OZP_VERSION of the library that is linked. */
+uint32_t ozp_version(void);
 
 #ifdef __cplusplus
 }

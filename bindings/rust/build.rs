@@ -1,4 +1,4 @@
-//! Finds the archive of the proved library: in the folder OZPINDURU_LIB_DIR, or where `rt staticlib ozpinduru` writes it.
+//! Finds the archive of the proved library: in the folder OZPINDURU_LIB_DIR, or where `bindings/archive` writes it.
 
 use std::env;
 use std::path::{Path, PathBuf};
@@ -16,7 +16,7 @@ fn main() {
     println!("cargo:rerun-if-changed={}", archive.display());
     if !archive.is_file() {
         eprintln!(
-            "There is no {ARCHIVE} in {}. Run `rt staticlib ozpinduru` at the top of the repository, which proves the library \
+            "There is no {ARCHIVE} in {}. Run `bindings/archive` at the top of the repository, which proves the library \
              and writes it, or set OZPINDURU_LIB_DIR to the folder that has it.",
             folder.display()
         );

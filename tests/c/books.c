@@ -5,22 +5,12 @@
 #include <stdlib.h>
 #include <string.h>
 
-/* a book hands back so many rows, and none after them */
-static void expect_rows(const uint8_t *book, size_t bytes, size_t rows, const char *name)
-{
-    size_t row, there = 0;
-    for (row = 0; row < rows; row++)
-        there += ozp_row(book, bytes, row).kind == OZP_GIVEN;
-    expect(there == rows, name, "every row that is there");
-    expect_no_row(ozp_row(book, bytes, rows), name);
-    expect_no_row(ozp_row(book, bytes, SIZE_MAX), name);
-}
-
 static void judge(const char *folder, const char *line)
 {
     static uint8_t book[ROOM];
     static struct buffers out;
     char name[256];
+    char said[64];
     unsigned number, place, rows;
     const char *verdict = strstr(line, ": ");
     const char *handed = strstr(line, ", rows ");
@@ -32,12 +22,18 @@ static void judge(const char *folder, const char *line)
     memcpy(name, line, (size_t)(verdict - line));
     name[verdict - line] = 0;
     bytes = read_book(folder, name, book);
-    expect_rows(book, bytes, rows, name);
     if (sscanf(verdict, ": refused %u %u", &number, &place) == 2) {
+        snprintf(said, sizeof said, "refused %u %u\n", number, place);
+        expect_report(book, bytes, said, name);
+        if (number <= OZP_WRONG_LAYOUT)
+            expect_unread(book, bytes, number, place, name);
+        else
+            expect_rows(book, bytes, rows, name);
         expect_refusal(clear(book, bytes, &out, ENTRIES, ENTRIES), &out, number, place, name);
         expect_refusal(clear(book, bytes, &out, 0, 0), &out, number, place, name);
         return;
     }
+    expect_rows(book, bytes, rows, name);
     expect_clearing(clear(book, bytes, &out, ENTRIES, ENTRIES), &out, rows, name);
     expect_clearing(clear(book, bytes, &out, rows, rows), &out, rows, name);
     if (rows > 0) {
@@ -72,8 +68,7 @@ void reference(const char *folder)
     const char *name = "reference.book";
     size_t bytes = read_book(folder, name, book), row;
     ozp_answer a = clear(book, bytes, &out, ENTRIES, ENTRIES), q = ozp_quote(book, bytes);
-    ozp_row_values r;
-    expect(q.kind == a.kind && q.total == a.total && q.price == a.price && q.year == a.year, name, "quote");
+    expect(q.kind == a.kind && q.total == a.total && q.price == a.price && q.rows == a.rows && q.year == a.year, name, "quote");
     expect(a.kind == OZP_GIVEN && a.total == 10000 && a.price == 37500, name, "total and price");
     expect(a.make_whole == 637500 && a.daily == 375637500 && a.year == 137107687500u, name, "amounts");
     for (row = 0; row < LENGTH(cleared); row++) {
@@ -81,16 +76,6 @@ void reference(const char *folder)
         expect(out.committed[row] == committed[row], name, "committed");
         expect(ozp_make_whole(a.kind, a.price, out.cleared[row], out.committed[row]) == whole[row], name, "make-whole");
     }
-    r = ozp_row(book, bytes, 0);
-    expect(r.resource == 11 && r.seller == 7 && r.quantity == 9900 && r.stamp == 1, name, "row 0");
-    expect(r.price_kind == OZP_GIVEN && r.price == 10000, name, "price of row 0");
-    expect(r.block_kind == OZP_NONE && r.block == OZP_NO_VALUE, name, "row 0 is flexible");
-    r = ozp_row(book, bytes, 2);
-    expect(r.resource == 13 && r.price == 37500 && r.quantity == 100 && r.stamp == 3, name, "row 2");
-    expect(r.block_kind == OZP_GIVEN && r.block == 50, name, "minimum block of row 2");
-    bytes = read_book(folder, "no-price-in-row-0.book", book);
-    r = ozp_row(book, bytes, 0);
-    expect(r.kind == OZP_GIVEN && r.price_kind == OZP_NONE && r.price == OZP_NO_VALUE, "no-price-in-row-0.book", "missing price");
 }
 
 /* nothing offered: no price, and no buffer is needed; no bytes at all */
@@ -104,5 +89,6 @@ void nothing(const char *folder)
     a = ozp_clear(NULL, 0, NULL, 0, NULL, 0);
     expect(a.kind == OZP_REFUSED && a.number == OZP_WRONG_LENGTH && a.place == 0, "no bytes", "refused 1 0");
     expect(ozp_quote(NULL, 0).number == OZP_WRONG_LENGTH, "no bytes", "no quote");
-    expect_no_row(ozp_row(NULL, 0, 0), "no bytes");
+    expect(ozp_read(NULL, 0, NULL, 0).number == OZP_WRONG_LENGTH, "no bytes", "nothing is read");
+    expect_rows(book, bytes, 0, "no offers");
 }

@@ -63,6 +63,7 @@ void expect_clearing(ozp_answer a, const struct buffers *out, size_t rows, const
     }
     expect(short_of == 0, name, "every row commits what it clears");
     expect(a.kind == OZP_GIVEN || a.kind == OZP_NONE, name, "kind of a clearing");
+    expect(a.rows == rows, name, "the number of rows");
     expect((a.kind == OZP_NONE) == (a.total == 0), name, "no price where nothing clears, and only there");
     expect((a.kind == OZP_NONE) == (a.price == OZP_NO_VALUE), name, "no price is all ones");
     expect(a.total == total, name, "the total is what the rows clear");
@@ -76,7 +77,7 @@ void expect_clearing(ozp_answer a, const struct buffers *out, size_t rows, const
 void expect_refusal(ozp_answer a, const struct buffers *out, unsigned number, unsigned place, const char *name)
 {
     expect(a.kind == OZP_REFUSED && a.number == number && a.place == place, name, "number and place of the refusal");
-    expect(a.total == OZP_NO_VALUE && a.price == OZP_NO_VALUE, name, "a refusal has no total and no price");
+    expect(a.total == OZP_NO_VALUE && a.price == OZP_NO_VALUE && a.rows == OZP_NO_VALUE, name, "a refusal has no total, price or rows");
     expect(a.make_whole == OZP_NO_AMOUNT && a.daily == OZP_NO_AMOUNT && a.year == OZP_NO_AMOUNT, name, "a refusal has no amounts");
     expect(untouched(out, 0), name, "a refusal leaves both buffers");
 }
@@ -85,12 +86,4 @@ ozp_answer clear(const uint8_t *book, size_t bytes, struct buffers *out, size_t 
 {
     fill(out);
     return ozp_clear(book, bytes, out->cleared, cleared, out->committed, committed);
-}
-
-void expect_no_row(ozp_row_values r, const char *name)
-{
-    expect(r.kind == OZP_NONE && r.price_kind == OZP_NONE && r.block_kind == OZP_NONE, name, "no row");
-    expect(r.resource == OZP_NO_VALUE && r.seller == OZP_NO_VALUE && r.quantity == OZP_NO_VALUE && r.price == OZP_NO_VALUE
-               && r.block == OZP_NO_VALUE && r.stamp == OZP_NO_AMOUNT,
-           name, "no row has no values");
 }

@@ -2,11 +2,12 @@
 #ifndef CHECK_H
 #define CHECK_H
 
-#include "../../include/ozpinduru.h"
+#include <ozpinduru.h>
 
 #define LENGTH(xs) (sizeof(xs) / sizeof((xs)[0]))
 
-/* what stands in a buffer before a call */
+/* what stands in each byte of a buffer before a call, and in four of them */
+#define UNTOUCHED_BYTE 0xA5
 #define UNTOUCHED 0xA5A5A5A5u
 
 /* a buffer a little longer than any book needs */
@@ -28,14 +29,19 @@ size_t read_book(const char *folder, const char *name, uint8_t *book);
 ozp_answer clear(const uint8_t *book, size_t bytes, struct buffers *out, size_t cleared, size_t committed);
 void expect_clearing(ozp_answer a, const struct buffers *out, size_t rows, const char *name);
 void expect_refusal(ozp_answer a, const struct buffers *out, unsigned number, unsigned place, const char *name);
-void expect_no_row(ozp_row_values r, const char *name);
 
 /* the tests */
 unsigned judge_all(const char *folder, const char *lines);
+void expect_rows(const uint8_t *book, size_t bytes, size_t rows, const char *name);
+void expect_unread(const uint8_t *book, size_t bytes, unsigned number, unsigned place, const char *name);
+void reading(const char *folder);
 void reference(const char *folder);
 void nothing(const char *folder);
 void curve(void);
 void make_whole(void);
+void expect_report(const uint8_t *book, size_t bytes, const char *text, const char *name);
+void texts(const char *folder);
 void threads(const char *folder);
+void stacks(const char *folder);
 
 #endif

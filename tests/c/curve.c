@@ -1,6 +1,62 @@
 /* The calls that take numbers alone. */
 #include "check.h"
 
+static ozp_value given(uint32_t number)
+{
+    ozp_value v;
+    v.kind = OZP_GIVEN;
+    v.number = number;
+    return v;
+}
+
+static ozp_parameters all(uint32_t year, uint32_t cost, uint32_t offset, uint32_t outage, uint32_t requirement)
+{
+    ozp_parameters p;
+    p.year = year;
+    p.cost = given(cost);
+    p.offset = given(offset);
+    p.outage = given(outage);
+    p.requirement = given(requirement);
+    return p;
+}
+
+static void expect_no_curve(ozp_parameters p, unsigned number, unsigned place)
+{
+    ozp_curve_points c = ozp_curve(p);
+    ozp_curve_price at = ozp_price_at(p, 0);
+    expect(c.kind == OZP_REFUSED && c.number == number && c.place == place, "curve", "refused");
+    expect(c.p1 == OZP_NO_VALUE && c.p2 == OZP_NO_VALUE && c.p3 == OZP_NO_VALUE && c.q1 == OZP_NO_VALUE && c.q2 == OZP_NO_VALUE
+               && c.q3 == OZP_NO_VALUE,
+           "curve", "no points");
+    expect(at.kind == OZP_REFUSED && at.number == number && at.place == place && at.price == OZP_NO_VALUE, "curve",
+           "no price of refused parameters");
+}
+
+static ozp_value *field(ozp_parameters *p, unsigned place)
+{
+    return place == OZP_COST ? &p->cost : place == OZP_OFFSET ? &p->offset : place == OZP_OUTAGE ? &p->outage : &p->requirement;
+}
+
+/* a value that is missing is 4 whatever its number, and one of any other kind is 5, as if it were given and out of range */
+static void kinds(void)
+{
+    static const uint32_t wrong[] = {0, OZP_NONE, OZP_REFUSED, 5, UINT32_MAX};
+    unsigned place;
+    size_t i;
+    for (place = OZP_COST; place <= OZP_REQUIREMENT; place++) {
+        ozp_parameters p = all(2026, 146000, 73000, 2000, 10000);
+        for (i = 0; i < LENGTH(wrong); i++) {
+            field(&p, place)->kind = wrong[i];
+            expect_no_curve(p, OZP_PARAMETER_OUT_OF_RANGE, place);
+        }
+        field(&p, place)->kind = OZP_MISSING;
+        expect_no_curve(p, OZP_MISSING_PARAMETER, place);
+        p.year = 1999;
+        p.requirement.kind = OZP_MISSING;
+        expect_no_curve(p, OZP_MISSING_PARAMETER, place);
+    }
+}
+
 void curve(void)
 {
     static const uint32_t at[][2] = {{0, 50000}, {9900, 50000}, {10000, 37500}, {10150, 18750}, {10151, 18687}, {10450, 0}};
@@ -10,34 +66,29 @@ void curve(void)
         {2026, 146000, 146001, 0, 1000, OZP_OFFSET}, {2026, 146000, 0, 5001, 999, OZP_OUTAGE},
         {2026, 146000, 0, 0, 999, OZP_REQUIREMENT}, {2026, 146000, 0, 0, 2000001, OZP_REQUIREMENT},
     };
-    ozp_curve_points c = ozp_curve(2026, 146000, 73000, 2000, 10000);
+    ozp_parameters reference = all(2026, 146000, 73000, 2000, 10000);
+    ozp_curve_points c = ozp_curve(reference);
     ozp_curve_price p;
     size_t i;
     expect(c.kind == OZP_GIVEN && c.number == OZP_NO_VALUE && c.place == OZP_NO_VALUE, "curve", "kind");
     expect(c.p1 == 50000 && c.p2 == 18750 && c.p3 == 0, "curve", "prices");
     expect(c.q1 == 9900 && c.q2 == 10150 && c.q3 == 10450, "curve", "quantities");
-    c = ozp_curve(2026, 146000, 0, 2000, 10000);
+    c = ozp_curve(all(2026, 146000, 0, 2000, 10000));
     expect(c.p1 == 87500 && c.p2 == 37500, "curve", "offset 0");
-    c = ozp_curve(2026, 146000, 146000, 2000, 1000);
+    c = ozp_curve(all(2026, 146000, 146000, 2000, 1000));
     expect(c.p1 == 50000 && c.p2 == 0 && c.q1 == 990 && c.q2 == 1015 && c.q3 == 1045, "curve", "offset of the cost, least requirement");
     for (i = 0; i < LENGTH(at); i++) {
-        p = ozp_price_at(2026, 146000, 73000, 2000, 10000, at[i][0]);
+        p = ozp_price_at(reference, at[i][0]);
         expect(p.kind == OZP_GIVEN && p.price == at[i][1] && p.number == OZP_NO_VALUE && p.place == OZP_NO_VALUE, "curve", "price at");
     }
-    p = ozp_price_at(2026, 146000, 73000, 2000, 10000, 10451);
-    expect(p.kind == OZP_NONE && p.price == OZP_NO_VALUE && p.number == OZP_NO_VALUE && p.place == OZP_NO_VALUE, "curve", "no price past Q3");
-    expect(ozp_price_at(2026, 146000, 73000, 2000, 10000, UINT32_MAX).kind == OZP_NONE, "curve", "no price far past Q3");
+    p = ozp_price_at(reference, 10451);
+    expect(p.kind == OZP_NONE && p.price == OZP_NO_VALUE && p.number == OZP_NO_VALUE && p.place == OZP_NO_VALUE, "curve", "past Q3");
+    expect(ozp_price_at(reference, UINT32_MAX).kind == OZP_NONE, "curve", "far past Q3");
     for (i = 0; i < LENGTH(wrong); i++) {
         const uint32_t *w = wrong[i];
-        c = ozp_curve(w[0], w[1], w[2], w[3], w[4]);
-        p = ozp_price_at(w[0], w[1], w[2], w[3], w[4], 0);
-        expect(c.kind == OZP_REFUSED && c.number == OZP_PARAMETER_OUT_OF_RANGE && c.place == w[5], "curve", "refused 5");
-        expect(c.p1 == OZP_NO_VALUE && c.p2 == OZP_NO_VALUE && c.p3 == OZP_NO_VALUE && c.q1 == OZP_NO_VALUE
-                   && c.q2 == OZP_NO_VALUE && c.q3 == OZP_NO_VALUE,
-               "curve", "no points");
-        expect(p.kind == OZP_REFUSED && p.number == OZP_PARAMETER_OUT_OF_RANGE && p.place == w[5] && p.price == OZP_NO_VALUE, "curve",
-               "no price of refused parameters");
+        expect_no_curve(all(w[0], w[1], w[2], w[3], w[4]), OZP_PARAMETER_OUT_OF_RANGE, w[5]);
     }
+    kinds();
 }
 
 void make_whole(void)
@@ -48,5 +99,6 @@ void make_whole(void)
     expect(ozp_make_whole(OZP_GIVEN, UINT32_MAX, 0, UINT32_MAX) == (uint64_t)UINT32_MAX * UINT32_MAX, "make-whole", "the largest product");
     expect(ozp_make_whole(OZP_NONE, OZP_NO_VALUE, 0, 50) == 0, "make-whole", "no price");
     expect(ozp_make_whole(OZP_REFUSED, 37500, 33, 50) == OZP_NO_AMOUNT, "make-whole", "refused");
+    expect(ozp_make_whole(OZP_MISSING, 37500, 33, 50) == OZP_NO_AMOUNT, "make-whole", "missing");
     expect(ozp_make_whole(0, 37500, 33, 50) == OZP_NO_AMOUNT, "make-whole", "no answer");
 }

@@ -21,7 +21,7 @@ struct work {
 static int same(ozp_answer a, ozp_answer b)
 {
     return a.make_whole == b.make_whole && a.daily == b.daily && a.year == b.year && a.kind == b.kind && a.total == b.total
-           && a.price == b.price && a.number == b.number && a.place == b.place;
+           && a.price == b.price && a.rows == b.rows && a.number == b.number && a.place == b.place;
 }
 
 static void *clear_often(void *lent)

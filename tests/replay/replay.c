@@ -7,30 +7,15 @@
  */
 #define _POSIX_C_SOURCE 200112L
 
-#include "../../include/ozpinduru.h"
+#include "replay.h"
 
-#include <pthread.h>
 #include <stdio.h>
 #include <stdlib.h>
 
-/* a call's head, as it is written: 64 bytes, with no gap */
-struct head {
-    uint64_t make_whole, daily, year;
-    uint32_t kind, total, price, number, place;
-    uint32_t book_bytes, cleared_entries, committed_entries, filled, rows;
-};
-
-struct call {
-    struct head due;
-    uint8_t *book;
-    uint32_t *cleared, *committed; /* the entries that are filled */
-    pthread_barrier_t start;
-};
-
-static void *room(size_t bytes)
+void *room(size_t bytes)
 {
     void *room = malloc(bytes);
-    if (room == NULL) {
+    if (room == NULL && bytes > 0) {
         perror("room for a call");
         exit(2);
     }
@@ -75,12 +60,8 @@ static int holds(const uint32_t *buffer, size_t entries, const uint32_t *due, si
 static int same(ozp_answer a, const struct head *due)
 {
     return a.make_whole == due->make_whole && a.daily == due->daily && a.year == due->year && a.kind == due->kind
-           && a.total == due->total && a.price == due->price && a.number == due->number && a.place == due->place;
-}
-
-static int has_row(const struct call *call, size_t row)
-{
-    return ozp_row(call->book, call->due.book_bytes, row).kind == OZP_GIVEN;
+           && a.total == due->total && a.price == due->price && a.number == due->number && a.place == due->place
+           && a.rows == (due->kind == OZP_REFUSED ? OZP_NO_VALUE : due->filled);
 }
 
 /* what differs, or null */
@@ -99,9 +80,9 @@ static const char *difference(const struct call *call, ozp_answer a, const uint3
         whole += ozp_make_whole(a.kind, a.price, cleared[i], committed[i]);
     if (a.kind != OZP_REFUSED && whole != due->make_whole)
         return "the sum of make-whole";
-    if (due->rows > 0 && !(has_row(call, 0) && has_row(call, due->rows - 1)))
-        return "a row";
-    return has_row(call, due->rows) ? "the row past the last" : NULL;
+    if (due->rows > 0 && !(is_read(call, due->rows) && is_read(call, due->rows + 1) && !is_read(call, due->rows - 1)))
+        return "what is read";
+    return is_reported(call) ? NULL : "the report";
 }
 
 static void *replay(void *lent)

@@ -13,6 +13,7 @@ from concurrent.futures import ThreadPoolExecutor
 sys.path.insert(0, str(pathlib.Path(__file__).resolve().parents[2] / "bindings" / "python"))
 import ozpinduru  # noqa: E402
 
+library = ozpinduru._library.library
 HEAD = struct.Struct("<3Q10I")
 ANSWER = "make_whole daily year kind total price number place"
 Due = collections.namedtuple("Due", f"{ANSWER} book_bytes cleared_entries committed_entries filled rows")
@@ -34,27 +35,64 @@ def calls(data):
 def lent(due, book, filled):
     """What differs where the library is called as the module calls it, with buffers of just the lengths that are due."""
     cleared, committed = [(ctypes.c_uint32 * n)(*range(n)) for n in (due.cleared_entries, due.committed_entries)]
-    a = ozpinduru._library.ozp_clear(book, len(book), cleared, len(cleared), committed, len(committed))
+    a = library.ozp_clear(book, len(book), cleared, len(cleared), committed, len(committed))
     if any(getattr(a, name) != getattr(due, name) for name in ANSWER.split()):
         return "the answer"
+    if a.rows != (2**32 - 1 if due.kind == 3 else due.filled):
+        return "the number of rows"
     for buffer, entries in zip((cleared, committed), filled):
         if list(buffer) != [*entries, *range(len(entries), len(buffer))]:
             return "a buffer"
 
 
-def called(due, book, filled):
-    """What differs where the module's own functions are called; their buffers are never short."""
-    price = due.price if due.kind == 1 else None
-    rows = [ozpinduru.Row(x, y, (price or 0) * (y - x)) for x, y in zip(*filled)]
+def decoded(book, count):
+    """The values of a book of so many rows, from its bytes, as the outline places them."""
+    year, *values, _, marks = struct.unpack_from("<H4IHB", book, 6)
+    offers = []
+    for n in range(count):
+        at = 512 * (1 + n // 15) + 28 + 32 * (n % 15)
+        resource, seller, price, quantity, block, stamp, own = struct.unpack_from("<5IQB", book, at)
+        offers.append(ozpinduru.Offer(resource, seller, price if own & 1 else None, quantity, block if own & 2 else None, stamp))
+    given = [value if marks >> bit & 1 else None for bit, value in enumerate(values)]
+    return ozpinduru.Book(ozpinduru.Parameters(year, *given), offers)
+
+
+def printed(due, rows):
+    """What the program `clear` prints."""
+    if due.kind == 3:
+        return f"refused {due.number} {due.place}\n"
+    price = due.price if due.kind == 1 else "-"
+    lines = [f"cleared {due.total}", f"price {price}", *(" ".join(map(str, row)) for row in rows)]
+    return "\n".join([*lines, f"daily {due.daily}", f"year {due.year}", ""])
+
+
+def read(due, book):
+    """What the package reads, or None where that differs from what the bytes say."""
     try:
-        answer = ozpinduru.clear(book)
-        same = answer == ozpinduru.Clearing(due.total, price, due.make_whole, due.daily, due.year, rows)
+        found = ozpinduru.read(book)
+    except ozpinduru.Refusal as refusal:
+        return [] if due.rows == 0 and refusal.number <= 3 else None
+    return found.offers if found == decoded(book, due.rows) else None
+
+
+def called(due, book, filled):
+    """What differs where the package's own functions are called; their buffers are never short."""
+    offers, price = read(due, book), due.price if due.kind == 1 else None
+    if offers is None:
+        return "what is read"
+    if due.number == ozpinduru.Fault.SHORT_BUFFER:
+        return None
+    rows = [(offer.resource, x, y, (price or 0) * (y - x)) for offer, x, y in zip(offers, *filled)]
+    try:
+        answer, columns = ozpinduru.clear(book), ozpinduru.clear_columns(book)
+        in_all = (due.total, price, due.make_whole, due.daily, due.year)
+        same = answer == ozpinduru.Clearing(*in_all, rows) and ozpinduru.quote(book) == ozpinduru.Quote(*in_all)
+        same = same and [tuple(columns.cleared), tuple(columns.committed)] == filled
     except ozpinduru.Refusal as refusal:
         same = (refusal.number, refusal.place) == (due.number, due.place)
-    if not same and due.number != ozpinduru.Fault.SHORT_BUFFER:
-        return "the module's answer"
-    if [ozpinduru.row(book, n) is None for n in (0, due.rows)] != [due.rows == 0, True]:
-        return "a row"
+    if not same:
+        return "the package's answer"
+    return None if ozpinduru.report(book) == printed(due, rows) else "the report"
 
 
 def replay(*call):

@@ -6,10 +6,12 @@ mod books;
 mod timing;
 
 use books::{cases, Case};
+use ozpinduru::{clear_into, raw, Tenths};
 use std::hint::black_box;
 use timing::best;
 
-const ROOM: usize = ozpinduru::MOST_OFFERS;
+const ROOM: usize = ozpinduru::MOST_ROWS;
+const NONE: Tenths = Tenths(0);
 
 fn main() {
     let cases = cases();
@@ -29,17 +31,17 @@ fn done<T>(answer: T) {
 }
 
 fn accepted(book: &[u8]) -> bool {
-    ozpinduru::clear(book, &mut [0; ROOM], &mut [0; ROOM]).is_ok()
+    clear_into(book, &mut [NONE; ROOM], &mut [NONE; ROOM]).is_ok()
 }
 
 /// A line of the first table, once all three have given the same answer.
 fn compare(case: &Case) {
     let book = &case.book;
     agree(case);
-    let mut buffers = [([0; ROOM], [0; ROOM]); 3];
-    let [(a, b), (c, d), (e, f)] = &mut buffers;
+    let (mut a, mut b) = ([NONE; ROOM], [NONE; ROOM]);
+    let [(c, d), (e, f)] = &mut [([0; ROOM], [0; ROOM]); 2];
     let [library, plain, tuned] = best([
-        &mut || done(ozpinduru::clear(black_box(book), a, b)),
+        &mut || done(clear_into(black_box(book), &mut a, &mut b)),
         &mut || done(plain::clear(black_box(book), c, d)),
         &mut || done(plain::clear_tuned(black_box(book), e, f)),
     ]);
@@ -53,33 +55,39 @@ fn compare(case: &Case) {
     );
 }
 
-/// A line of the second table. A row past the last is answered once refusals 1 to 3 are ruled out, and buffers of no entries
-/// are refused once the rows have passed; so the differences are the times of the stages.
+/// A line of the second table. A call that reads a book into no entries is refused once 1 to 3 are ruled out, and one that
+/// clears it into none once the rows have passed; so the differences are the times of the stages.
 fn stages(case: &Case) {
     let book = &case.book;
-    let (mut cleared, mut committed) = ([0; ROOM], [0; ROOM]);
-    let [form, rows, all] = best([
-        &mut || done(ozpinduru::row(black_box(book), usize::MAX)),
-        &mut || done(ozpinduru::clear(black_box(book), &mut [], &mut [])),
-        &mut || done(ozpinduru::clear(black_box(book), &mut cleared, &mut committed)),
-    ]);
+    let (mut cleared, mut committed) = ([NONE; ROOM], [NONE; ROOM]);
+    let [form, rows, all] =
+        best([&mut || done(formed(black_box(book))), &mut || done(clear_into(black_box(book), &mut [], &mut [])), &mut || {
+            done(clear_into(black_box(book), &mut cleared, &mut committed))
+        }]);
     println!("{:<42} {form:>8.3} {:>8.3} {:>8.3}", case.name, rows - form, all - rows);
+}
+
+/// What is said of a book where no entries are lent for its rows.
+fn formed(book: &[u8]) -> raw::Contents {
+    // SAFETY: the call reads the book within its length, and there are no entries to write.
+    unsafe { raw::ozp_read(book.as_ptr(), book.len(), std::ptr::null_mut(), 0) }
 }
 
 /// Stops where the three do not give the same answer and the same buffers.
 fn agree(case: &Case) {
     let room = || ([7; ROOM], [8; ROOM]);
-    let mut ours = room();
-    let answer = match ozpinduru::clear(&case.book, &mut ours.0, &mut ours.1) {
+    let (mut cleared, mut committed) = ([Tenths(7); ROOM], [Tenths(8); ROOM]);
+    let answer = match clear_into(&case.book, &mut cleared, &mut committed) {
         Err(refusal) => plain::Outcome::Refused { number: refusal.number(), place: refusal.place() },
-        Ok(c) => plain::Outcome::Cleared(plain::Clearing {
-            total: c.total,
-            price: c.price,
-            make_whole: c.make_whole,
-            daily: c.daily,
-            year: c.year,
+        Ok(quote) => plain::Outcome::Cleared(plain::Clearing {
+            total: quote.total.0,
+            price: quote.price.map(|price| price.0),
+            make_whole: quote.make_whole.0,
+            daily: quote.daily.0,
+            year: quote.year.0,
         }),
     };
+    let ours = (cleared.map(|tenths| tenths.0), committed.map(|tenths| tenths.0));
     for clear in [plain::clear, plain::clear_tuned] {
         let mut theirs = room();
         assert_eq!(clear(&case.book, &mut theirs.0, &mut theirs.1), answer, "{}", case.name);

@@ -10,28 +10,26 @@ fn main() -> ExitCode {
         Ok(book) => book,
         Err(error) => {
             eprintln!("{}: {error}", path.display());
-            return ExitCode::FAILURE;
+            return ExitCode::from(2);
         }
     };
-    let (mut cleared, mut committed) = ([0; ozpinduru::MOST_OFFERS], [0; ozpinduru::MOST_OFFERS]);
-    match ozpinduru::clear(&book, &mut cleared, &mut committed) {
+    match ozpinduru::clear(&book) {
         Err(refusal) => {
-            println!("refused {} {}: {refusal}", refusal.number(), refusal.place());
+            println!("{refusal}");
             ExitCode::FAILURE
         }
         Ok(clearing) => {
-            print(&book, &clearing, &cleared, &committed);
+            print(&clearing);
             ExitCode::SUCCESS
         }
     }
 }
 
-fn print(book: &[u8], clearing: &ozpinduru::Clearing, cleared: &[u32], committed: &[u32]) {
+fn print(clearing: &ozpinduru::Clearing) {
     println!("cleared {}", clearing.total);
     println!("price {}", clearing.price.map_or("-".to_string(), |price| price.to_string()));
-    let offers = (0..).map_while(|row| ozpinduru::row(book, row));
-    for ((offer, &cleared), &committed) in offers.zip(cleared).zip(committed) {
-        println!("{} {cleared} {committed} {}", offer.resource, clearing.make_whole(cleared, committed));
+    for row in &clearing.rows {
+        println!("{} {} {} {}", row.resource, row.cleared, row.committed, row.make_whole);
     }
     println!("daily {}", clearing.daily);
     println!("year {}", clearing.year);

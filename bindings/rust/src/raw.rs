@@ -1,73 +1,91 @@
-//! The C interface, as include/ozpinduru.h declares it: a slice is a pointer and a length, and no kind is 0.
+//! The C interface itself, as include/ozpinduru.h declares it: the header says each contract in words. A slice is a pointer and
+//! a number of entries, no kind is 0, and a field that has no value holds all ones.
 
 /// What was asked for is there.
-pub const THERE: u32 = 1;
-/// There is none: no price, no row.
+pub const GIVEN: u32 = 1;
+/// There is none.
 pub const NONE: u32 = 2;
-/// The book or the parameters are refused.
+/// Refused: number and place say why.
 pub const REFUSED: u32 = 3;
+/// A value that the book or the caller leaves out.
+pub const MISSING: u32 = 4;
+
+/// The most bytes of a book.
+pub const BOOK_BYTES: usize = 20_992;
+/// The most rows of a book.
+pub const ROWS: usize = 600;
+/// Room for every text of `ozp_report`.
+pub const REPORT_BYTES: usize = 32_768;
+/// Room for every text of `ozp_words`.
+pub const WORDS_BYTES: usize = 256;
 
 /// What a field holds that has no value.
 pub const NO_VALUE: u32 = u32::MAX;
+/// What a 64-bit field holds that has no value.
+pub const NO_AMOUNT: u64 = u64::MAX;
 
-#[repr(C)]
-pub struct Answer {
-    pub make_whole: u64,
-    pub daily: u64,
-    pub year: u64,
-    pub kind: u32,
-    pub total: u32,
-    pub price: u32,
-    pub number: u32,
-    pub place: u32,
+/// A struct of the header, by the name that it has there.
+macro_rules! structs {
+    ($($(#[$doc:meta])* $name:ident { $($field:ident: $type:ty),* $(,)? })*) => {
+        $($(#[$doc])*
+        #[repr(C)]
+        #[derive(Clone, Copy, Debug, PartialEq, Eq)]
+        pub struct $name { $(pub $field: $type),* })*
+
+        /// Of each struct the name, the size, the alignment, and each field's name and offset.
+        pub fn layouts() -> Vec<(&'static str, usize, usize, Vec<(&'static str, usize)>)> {
+            vec![$((
+                stringify!($name),
+                size_of::<$name>(),
+                align_of::<$name>(),
+                vec![$((stringify!($field), std::mem::offset_of!($name, $field))),*],
+            )),*]
+        }
+    };
 }
 
-#[repr(C)]
-pub struct Row {
-    pub stamp: u64,
-    pub kind: u32,
-    pub resource: u32,
-    pub seller: u32,
-    pub quantity: u32,
-    pub price_kind: u32,
-    pub price: u32,
-    pub block_kind: u32,
-    pub block: u32,
+structs! {
+    /// A value that may be missing.
+    Value { kind: u32, number: u32 }
+    /// The year, C, E, F and R.
+    Parameters { year: u32, cost: Value, offset: Value, outage: Value, requirement: Value }
+    /// A row of a book.
+    Row { stamp: u64, resource: u32, seller: u32, quantity: u32, price: Value, block: Value }
+    /// What a book clears.
+    Answer {
+        make_whole: u64, daily: u64, year: u64, kind: u32, total: u32, price: u32, rows: u32, number: u32, place: u32,
+    }
+    /// The three points of a curve.
+    CurvePoints { kind: u32, p1: u32, p2: u32, p3: u32, q1: u32, q2: u32, q3: u32, number: u32, place: u32 }
+    /// The price of a curve at a quantity.
+    CurvePrice { kind: u32, price: u32, number: u32, place: u32 }
+    /// What a book says.
+    Contents { kind: u32, rows: u32, number: u32, place: u32, parameters: Parameters }
+    /// A text in lent room.
+    Text { bytes: u64, kind: u32, number: u32, place: u32 }
 }
 
-#[repr(C)]
-pub struct Curve {
-    pub kind: u32,
-    pub p1: u32,
-    pub p2: u32,
-    pub p3: u32,
-    pub q1: u32,
-    pub q2: u32,
-    pub q3: u32,
-    pub number: u32,
-    pub place: u32,
-}
-
-#[repr(C)]
-pub struct Price {
-    pub kind: u32,
-    pub price: u32,
-    pub number: u32,
-    pub place: u32,
+/// The library has the kinds of its header; another says that this crate and the archive do not belong together.
+#[cold]
+pub(crate) fn unknown(kind: u32) -> ! {
+    unreachable!("kind {kind} is none of ozpinduru.h: is the archive of another version?")
 }
 
 extern "C" {
     pub fn ozp_clear(
         book: *const u8,
-        book_len: usize,
+        book_bytes: usize,
         cleared: *mut u32,
-        cleared_len: usize,
+        cleared_entries: usize,
         committed: *mut u32,
-        committed_len: usize,
+        committed_entries: usize,
     ) -> Answer;
-    pub fn ozp_quote(book: *const u8, book_len: usize) -> Answer;
-    pub fn ozp_row(book: *const u8, book_len: usize, row: usize) -> Row;
-    pub fn ozp_curve(year: u32, cost: u32, offset: u32, outage: u32, requirement: u32) -> Curve;
-    pub fn ozp_price_at(year: u32, cost: u32, offset: u32, outage: u32, requirement: u32, k: u32) -> Price;
+    pub fn ozp_quote(book: *const u8, book_bytes: usize) -> Answer;
+    pub fn ozp_read(book: *const u8, book_bytes: usize, rows: *mut Row, row_entries: usize) -> Contents;
+    pub fn ozp_curve(parameters: Parameters) -> CurvePoints;
+    pub fn ozp_price_at(parameters: Parameters, k: u32) -> CurvePrice;
     pub fn ozp_make_whole(kind: u32, price: u32, cleared: u32, committed: u32) -> u64;
+    pub fn ozp_report(book: *const u8, book_bytes: usize, room: *mut u8, room_bytes: usize) -> Text;
+    pub fn ozp_words(number: u32, room: *mut u8, room_bytes: usize) -> Text;
+    pub fn ozp_version() -> u32;
 }

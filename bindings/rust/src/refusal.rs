@@ -1,10 +1,12 @@
 //! Why a book or parameters are refused.
 
+use crate::words;
 use std::error::Error;
 use std::fmt;
 
 /// A refusal, with the place that it names. Blocks and rows count from 0; block 0 is the one with the parameters.
 #[derive(Clone, Copy, Debug, PartialEq, Eq, Hash)]
+#[non_exhaustive]
 pub enum Refusal {
     /// 1: the length is not a multiple of 512, or under 512, or over 20,992.
     WrongLength,
@@ -17,18 +19,23 @@ pub enum Refusal {
     MissingParameter(Field),
     /// 5: a parameter is out of range.
     ParameterOutOfRange(Field),
-    /// 6: an offer has no price.
-    NoPrice { row: u32 },
+    /// 6: the price of an offer is missing.
+    UnpricedOffer { row: u32 },
     /// 7: an offer value is out of range.
     OfferOutOfRange { row: u32 },
     /// 8: a resource number stands in an earlier row.
     RepeatedResource { row: u32 },
     /// 9: a result buffer has fewer entries than the book has offers.
     ShortBuffer(Buffer),
+    /// 20: the room lent is too small.
+    ShortRoom,
+    /// A number or a place that this version of the crate has no name for.
+    Unnamed { number: u32, place: u32 },
 }
 
 /// A parameter of a book, by its field number.
 #[derive(Clone, Copy, Debug, PartialEq, Eq, Hash)]
+#[non_exhaustive]
 pub enum Field {
     Year = 1,
     Cost = 2,
@@ -39,13 +46,17 @@ pub enum Field {
 
 /// A result buffer.
 #[derive(Clone, Copy, Debug, PartialEq, Eq, Hash)]
+#[non_exhaustive]
 pub enum Buffer {
     Cleared = 1,
     Committed = 2,
 }
 
+const FIELDS: [Field; 5] = [Field::Year, Field::Cost, Field::Offset, Field::Outage, Field::Requirement];
+const BUFFERS: [Buffer; 2] = [Buffer::Cleared, Buffer::Committed];
+
 impl Refusal {
-    /// The refusal's number in the table, from 1 to 9.
+    /// The refusal's number in the table.
     pub fn number(self) -> u32 {
         match self {
             Refusal::WrongLength => 1,
@@ -53,62 +64,44 @@ impl Refusal {
             Refusal::WrongLayout { .. } => 3,
             Refusal::MissingParameter(_) => 4,
             Refusal::ParameterOutOfRange(_) => 5,
-            Refusal::NoPrice { .. } => 6,
+            Refusal::UnpricedOffer { .. } => 6,
             Refusal::OfferOutOfRange { .. } => 7,
             Refusal::RepeatedResource { .. } => 8,
             Refusal::ShortBuffer(_) => 9,
+            Refusal::ShortRoom => 20,
+            Refusal::Unnamed { number, .. } => number,
         }
     }
 
-    /// The place in the table's numbers: a block, a field, a row or a buffer, and 0 for a wrong length.
+    /// The place in the table's numbers: a block, a field, a row or a buffer, else 0.
     pub fn place(self) -> u32 {
         match self {
-            Refusal::WrongLength => 0,
+            Refusal::WrongLength | Refusal::ShortRoom => 0,
             Refusal::WrongCheck { block } | Refusal::WrongLayout { block } => block,
             Refusal::MissingParameter(field) | Refusal::ParameterOutOfRange(field) => field as u32,
-            Refusal::NoPrice { row } | Refusal::OfferOutOfRange { row } | Refusal::RepeatedResource { row } => row,
+            Refusal::UnpricedOffer { row } | Refusal::OfferOutOfRange { row } | Refusal::RepeatedResource { row } => row,
             Refusal::ShortBuffer(buffer) => buffer as u32,
+            Refusal::Unnamed { place, .. } => place,
         }
     }
 
     /// The refusal of a number and a place, as the library answers them.
-    #[inline]
-    pub(crate) fn of(number: u32, place: u32) -> Refusal {
-        match number {
-            1 => Refusal::WrongLength,
-            2 => Refusal::WrongCheck { block: place },
-            3 => Refusal::WrongLayout { block: place },
-            4 => Refusal::MissingParameter(Field::of(place)),
-            5 => Refusal::ParameterOutOfRange(Field::of(place)),
-            6 => Refusal::NoPrice { row: place },
-            7 => Refusal::OfferOutOfRange { row: place },
-            8 => Refusal::RepeatedResource { row: place },
-            9 => Refusal::ShortBuffer(Buffer::of(place)),
-            _ => unreachable!("the library refused by {number}, and its table ends at 9"),
-        }
-    }
-}
-
-impl Field {
-    fn of(place: u32) -> Field {
-        match place {
-            1 => Field::Year,
-            2 => Field::Cost,
-            3 => Field::Offset,
-            4 => Field::Outage,
-            5 => Field::Requirement,
-            _ => unreachable!("the library refused field {place}, and a book has fields 1 to 5"),
-        }
-    }
-}
-
-impl Buffer {
-    fn of(place: u32) -> Buffer {
-        match place {
-            1 => Buffer::Cleared,
-            2 => Buffer::Committed,
-            _ => unreachable!("the library refused buffer {place}, and a call has buffers 1 and 2"),
-        }
+    pub fn of(number: u32, place: u32) -> Refusal {
+        let at = (place as usize).wrapping_sub(1);
+        let named = match number {
+            1 if place == 0 => Some(Refusal::WrongLength),
+            2 => Some(Refusal::WrongCheck { block: place }),
+            3 => Some(Refusal::WrongLayout { block: place }),
+            4 => FIELDS.get(at).copied().map(Refusal::MissingParameter),
+            5 => FIELDS.get(at).copied().map(Refusal::ParameterOutOfRange),
+            6 => Some(Refusal::UnpricedOffer { row: place }),
+            7 => Some(Refusal::OfferOutOfRange { row: place }),
+            8 => Some(Refusal::RepeatedResource { row: place }),
+            9 => BUFFERS.get(at).copied().map(Refusal::ShortBuffer),
+            20 if place == 0 => Some(Refusal::ShortRoom),
+            _ => None,
+        };
+        named.unwrap_or(Refusal::Unnamed { number, place })
     }
 }
 
@@ -133,19 +126,21 @@ impl fmt::Display for Buffer {
     }
 }
 
+/// Number and place, then the library's own words for the number.
 impl fmt::Display for Refusal {
     fn fmt(&self, f: &mut fmt::Formatter) -> fmt::Result {
+        let (number, place) = (self.number(), self.place());
+        write!(f, "refused {number} at ")?;
         match self {
-            Refusal::WrongLength => write!(f, "the length is not a multiple of 512, or under 512, or over 20,992"),
-            Refusal::WrongCheck { block } => write!(f, "the check of block {block} is wrong"),
-            Refusal::WrongLayout { block } => write!(f, "block {block} differs from the layout"),
-            Refusal::MissingParameter(field) => write!(f, "the {field} is missing"),
-            Refusal::ParameterOutOfRange(field) => write!(f, "the {field} is out of range"),
-            Refusal::NoPrice { row } => write!(f, "the offer in row {row} has no price; a missing price is not zero"),
-            Refusal::OfferOutOfRange { row } => write!(f, "a value of the offer in row {row} is out of range"),
-            Refusal::RepeatedResource { row } => write!(f, "the resource number of row {row} stands in an earlier row"),
-            Refusal::ShortBuffer(buffer) => write!(f, "the {buffer} buffer has fewer entries than the book has offers"),
-        }
+            Refusal::WrongCheck { .. } | Refusal::WrongLayout { .. } => write!(f, "block {place}"),
+            Refusal::MissingParameter(field) | Refusal::ParameterOutOfRange(field) => write!(f, "field {place} ({field})"),
+            Refusal::UnpricedOffer { .. } | Refusal::OfferOutOfRange { .. } => write!(f, "row {place}"),
+            Refusal::RepeatedResource { .. } => write!(f, "row {place}"),
+            Refusal::ShortBuffer(buffer) => write!(f, "buffer {place} ({buffer})"),
+            _ => write!(f, "{place}"),
+        }?;
+        let words = words(number).unwrap_or_default();
+        write!(f, ": {}", words.rsplit_once("; ").map_or(&words[..], |(when, _)| when))
     }
 }
 

@@ -1,35 +1,48 @@
 //! The outline's reference book through the C interface.
 
-use ozpinduru::{clear, curve, price_at, quote, row, Buffer, Clearing, Curve, Field, Offer, Parameters, Point, Refusal};
+use ozpinduru::{clear, clear_into, curve, price_at, quote, read, report, version, words};
+use ozpinduru::{Buffer, CentsPerMwDay, DollarsPerMwYear, Field, Mills, Offer, Parameters, Point, Refusal, Row, Tenths};
 use std::fs;
 use std::path::Path;
 
-const REFERENCE: Parameters = Parameters { year: 2026, cost: 146_000, offset: 73_000, outage: 2_000, requirement: 10_000 };
+const REFERENCE: Parameters = Parameters {
+    year: 2026,
+    cost: Some(DollarsPerMwYear(146_000)),
+    offset: Some(DollarsPerMwYear(73_000)),
+    outage: Some(2_000),
+    requirement: Some(Tenths(10_000)),
+};
 
 fn book() -> Vec<u8> {
     fs::read(Path::new(env!("CARGO_MANIFEST_DIR")).join("../../examples/reference.book")).unwrap()
 }
 
-fn points(curve: Curve) -> [(u32, u32); 3] {
-    curve.points.map(|Point { quantity, price }| (quantity, price))
+fn verdict(name: &str) -> Vec<u8> {
+    fs::read(Path::new(env!("CARGO_MANIFEST_DIR")).join("../../crates/verdicts/data").join(name)).unwrap()
+}
+
+fn row((resource, cleared, committed, make_whole): (u32, u32, u32, u64)) -> Row {
+    Row { resource, cleared: Tenths(cleared), committed: Tenths(committed), make_whole: Mills(make_whole) }
 }
 
 #[test]
 fn clears_as_the_outline_says() {
-    let (mut cleared, mut committed) = ([7; 5], [8; 4]);
-    let clearing = clear(&book(), &mut cleared, &mut committed).unwrap();
-    let (make_whole, daily, year) = (637_500, 375_637_500, 137_107_687_500);
-    assert_eq!(clearing, Clearing { total: 10_000, price: Some(37_500), make_whole, daily, year });
-    assert_eq!((cleared, committed), ([9_900, 67, 33, 7, 7], [9_900, 67, 50, 8]));
-    assert_eq!(quote(&book()), Ok(clearing));
-    let by_row: Vec<u64> = (0..3).map(|row| clearing.make_whole(cleared[row], committed[row])).collect();
-    assert_eq!(by_row, [0, 0, 637_500]);
+    let clearing = clear(&book()).unwrap();
+    let rows = [(11, 9_900, 9_900, 0), (12, 67, 67, 0), (13, 33, 50, 637_500)].map(row);
+    assert_eq!(clearing.rows, rows);
+    let quote = quote(&book()).unwrap();
+    assert_eq!((quote.total, quote.price, quote.row_count), (Tenths(10_000), Some(CentsPerMwDay(37_500)), 3));
+    assert_eq!((quote.make_whole, quote.daily, quote.year), (Mills(637_500), Mills(375_637_500), Mills(137_107_687_500)));
+    assert_eq!((clearing.total, clearing.price, clearing.year), (quote.total, quote.price, quote.year));
+    let (mut cleared, mut committed) = ([Tenths(7); 5], [Tenths(8); 4]);
+    assert_eq!(clear_into(&book(), &mut cleared, &mut committed), Ok(quote));
+    assert_eq!((cleared.map(|t| t.0), committed.map(|t| t.0)), ([9_900, 67, 33, 7, 7], [9_900, 67, 50, 8]));
 }
 
 #[test]
 fn buffers_of_the_right_length_are_enough_and_short_ones_are_unchanged() {
     let book = book();
-    assert!(clear(&book, &mut [0; 3], &mut [0; 3]).is_ok());
+    assert!(clear_into(&book, &mut [Tenths(0); 3], &mut [Tenths(0); 3]).is_ok());
     for (first, second, short) in [
         (2, 3, Buffer::Cleared),
         (3, 2, Buffer::Committed),
@@ -37,65 +50,68 @@ fn buffers_of_the_right_length_are_enough_and_short_ones_are_unchanged() {
         (0, 0, Buffer::Cleared),
         (600, 0, Buffer::Committed),
     ] {
-        let (mut cleared, mut committed) = (vec![7; first], vec![8; second]);
-        assert_eq!(clear(&book, &mut cleared, &mut committed), Err(Refusal::ShortBuffer(short)));
-        assert_eq!((cleared, committed), (vec![7; first], vec![8; second]));
+        let (mut cleared, mut committed) = (vec![Tenths(7); first], vec![Tenths(8); second]);
+        assert_eq!(clear_into(&book, &mut cleared, &mut committed), Err(Refusal::ShortBuffer(short)));
+        assert_eq!((cleared, committed), (vec![Tenths(7); first], vec![Tenths(8); second]));
     }
 }
 
 #[test]
-fn rows_have_their_values() {
-    let book = book();
-    let flexible =
-        |resource, price, quantity, stamp, seller| Offer { resource, seller, price: Some(price), quantity, block: None, stamp };
-    let sellers = [0, 1, 2].map(|at| row(&book, at).unwrap().seller);
-    assert_eq!(row(&book, 0), Some(flexible(11, 10_000, 9_900, 1, sellers[0])));
-    assert_eq!(row(&book, 1), Some(flexible(12, 37_500, 200, 2, sellers[1])));
-    assert_eq!(row(&book, 2), Some(Offer { block: Some(50), ..flexible(13, 37_500, 100, 3, sellers[2]) }));
-    assert_eq!([row(&book, 3), row(&book, 15), row(&book, usize::MAX), row(&[], 0)], [None; 4]);
+fn a_book_says_its_values() {
+    let book = read(&book()).unwrap();
+    assert_eq!(book.parameters, REFERENCE);
+    let offer = |resource, price, quantity, block: Option<u32>, stamp| Offer {
+        resource,
+        seller: 7,
+        price: Some(CentsPerMwDay(price)),
+        quantity: Tenths(quantity),
+        block: block.map(Tenths),
+        stamp,
+    };
+    let due = [offer(11, 10_000, 9_900, None, 1), offer(12, 37_500, 200, None, 2), offer(13, 37_500, 100, Some(50), 3)];
+    assert_eq!(book.offers, due);
+    assert_eq!(read(&verdict("no-price-in-row-0.book")).unwrap().offers[0].price, None);
+    assert_eq!(read(&verdict("missing-cost.book")).unwrap().parameters, Parameters { cost: None, ..REFERENCE });
+    assert_eq!(read(&[]), Err(Refusal::WrongLength));
 }
 
 #[test]
 fn the_curve_has_its_points_and_prices() {
-    assert_eq!(points(curve(&REFERENCE).unwrap()), [(9_900, 50_000), (10_150, 18_750), (10_450, 0)]);
+    let point = |(quantity, price)| Point { quantity: Tenths(quantity), price: CentsPerMwDay(price) };
+    assert_eq!(curve(&REFERENCE).unwrap().points, [(9_900, 50_000), (10_150, 18_750), (10_450, 0)].map(point));
     for (k, price) in [(0, 50_000), (9_900, 50_000), (10_000, 37_500), (10_151, 18_687), (10_450, 0)] {
-        assert_eq!(price_at(&REFERENCE, k), Ok(Some(price)));
+        assert_eq!(price_at(&REFERENCE, Tenths(k)), Ok(Some(CentsPerMwDay(price))));
     }
-    assert_eq!([price_at(&REFERENCE, 10_451), price_at(&REFERENCE, u32::MAX)], [Ok(None); 2]);
+    assert_eq!([10_451, u32::MAX].map(|k| price_at(&REFERENCE, Tenths(k))), [Ok(None); 2]);
 }
 
 #[test]
-fn parameters_out_of_range_have_no_curve() {
-    for (parameters, field) in [
-        (Parameters { year: 2025, cost: 0, ..REFERENCE }, Field::Year),
-        (Parameters { cost: 0, ..REFERENCE }, Field::Cost),
-        (Parameters { offset: 146_001, ..REFERENCE }, Field::Offset),
-        (Parameters { outage: 5_001, ..REFERENCE }, Field::Outage),
-        (Parameters { requirement: 999, ..REFERENCE }, Field::Requirement),
+fn parameters_missing_or_out_of_range_have_no_curve() {
+    let dollars = |number| Some(DollarsPerMwYear(number));
+    for (parameters, refusal) in [
+        (Parameters { year: 2025, cost: dollars(0), ..REFERENCE }, Refusal::ParameterOutOfRange(Field::Year)),
+        (Parameters { cost: dollars(0), ..REFERENCE }, Refusal::ParameterOutOfRange(Field::Cost)),
+        (Parameters { offset: dollars(146_001), ..REFERENCE }, Refusal::ParameterOutOfRange(Field::Offset)),
+        (Parameters { outage: Some(5_001), ..REFERENCE }, Refusal::ParameterOutOfRange(Field::Outage)),
+        (Parameters { requirement: Some(Tenths(999)), ..REFERENCE }, Refusal::ParameterOutOfRange(Field::Requirement)),
+        (Parameters { year: 1999, cost: None, outage: None, ..REFERENCE }, Refusal::MissingParameter(Field::Cost)),
+        (Parameters { requirement: None, ..REFERENCE }, Refusal::MissingParameter(Field::Requirement)),
     ] {
-        let refusal = Refusal::ParameterOutOfRange(field);
-        assert_eq!((curve(&parameters), price_at(&parameters, 0)), (Err(refusal), Err(refusal)));
+        assert_eq!((curve(&parameters), price_at(&parameters, Tenths(0))), (Err(refusal), Err(refusal)));
     }
 }
 
 #[test]
 fn nothing_cleared_is_no_price() {
-    let nothing = Clearing { total: 0, price: None, make_whole: 0, daily: 0, year: 0 };
-    let none = fs::read(Path::new(env!("CARGO_MANIFEST_DIR")).join("../../crates/verdicts/data/no-offers-length-512.book"));
-    assert_eq!(clear(&none.unwrap(), &mut [], &mut []), Ok(nothing));
-    assert_eq!(nothing.make_whole(0, 50), 0);
+    let nothing = clear(&verdict("no-offers-length-512.book")).unwrap();
+    assert_eq!((nothing.total, nothing.price, nothing.rows.len()), (Tenths(0), None, 0));
+    assert_eq!(quote(&verdict("no-offers-length-512.book")).unwrap().make_whole_of(Tenths(0), Tenths(50)), Mills(0));
 }
 
 #[test]
-fn two_threads_clear_one_book() {
-    let book = book();
-    let call = || {
-        let (mut cleared, mut committed) = ([0; 600], [0; 600]);
-        (clear(&book, &mut cleared, &mut committed), cleared, committed)
-    };
-    let once = call();
-    std::thread::scope(|threads| {
-        let others: Vec<_> = (0..2).map(|_| threads.spawn(|| (0..1_000).all(|_| call() == once))).collect();
-        assert!(others.into_iter().all(|other| other.join().unwrap()));
-    });
+fn words_and_versions() {
+    assert!(report(&book()).starts_with("cleared 10000\nprice 37500\n11 9900 9900 0\n"));
+    assert_eq!(report(&book()[1..]), "refused 1 0\n");
+    assert_eq!((words(6).as_deref(), words(0), words(u32::MAX)), (Some("an offer has no price; the row"), None, None));
+    assert_eq!(format!("{}.{}.{}", version().0, version().1, version().2), env!("CARGO_PKG_VERSION"));
 }

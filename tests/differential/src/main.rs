@@ -1,9 +1,14 @@
 //! differential [SEED] [COUNT]: runs the random calls of so many seeds, from SEED on, through the C interface and compares
 //! everything that comes back with the oracle's. Prints how many calls of each kind there were, or a difference and its seed,
 //! with exit status 1; so too where a long run misses a kind.
+//! differential layouts: prints the size of every struct and the offset of every field, as tests/layouts does in C and Python.
 
 mod compare;
+mod curve;
+mod layouts;
+mod reading;
 mod tally;
+mod texts;
 
 use oracle::random;
 use std::env;
@@ -15,12 +20,16 @@ const SEED: u64 = 20_260_601;
 const COUNT: u64 = 50_000;
 
 fn main() -> ExitCode {
+    if env::args().skip(1).eq(["layouts"]) {
+        layouts::print();
+        return ExitCode::SUCCESS;
+    }
     let arguments: Result<Vec<u64>, _> = env::args().skip(1).map(|word| word.parse()).collect();
     let result = match arguments.as_deref() {
         Ok([]) => run(SEED, COUNT),
         Ok([seed]) => run(*seed, COUNT),
         Ok([seed, count]) => run(*seed, *count),
-        _ => Err("usage: differential [SEED] [COUNT]".to_string()),
+        _ => Err("usage: differential [SEED] [COUNT] | layouts".to_string()),
     };
     match result {
         Ok(()) => ExitCode::SUCCESS,
@@ -51,8 +60,8 @@ fn compared(seeds: impl Iterator<Item = u64>) -> Result<Tally, String> {
     let mut tally = Tally::default();
     for seed in seeds {
         let call = random::call(seed);
-        let outcome = compare::call(&call, seed).map_err(|difference| format!("seed {seed}: {difference}"))?;
-        tally.add(&call, &outcome);
+        let compared = compare::call(&call, seed).map_err(|difference| format!("seed {seed}: {difference}"))?;
+        tally.add(&call, &compared);
     }
     Ok(tally)
 }

@@ -1,5 +1,6 @@
 //! How many calls of each kind a run meets.
 
+use crate::compare::Compared;
 use oracle::book::{self, Offer};
 use oracle::random::{Call, Kind};
 use oracle::{Clearing, Outcome};
@@ -10,12 +11,14 @@ use std::collections::BTreeMap;
 const ENOUGH: u64 = 1_000;
 
 /// The kinds, as they are printed. A call is of one kind of the first line, of one of the second, and of any of the others.
-const KINDS: [&[&str]; 5] = [
+const KINDS: [&[&str]; 7] = [
     &["valid", "faulty", "damaged", "stray"],
     &["not laid out", "no offers", "1 to 15 offers", "16 to 599", "600"],
     &["refused by 1", "by 2", "by 3", "by 4", "by 5", "by 6", "by 7", "by 8", "by 9"],
     &["cleared buffer too short", "committed buffer too short", "buffers kept by a refusal", "buffers longer than the book"],
     &["no price", "price 0", "make-whole", "spares by remainder", "by stamp", "by resource"],
+    &["read", "not read", "array too short", "report written", "room too small"],
+    &["curve drawn", "curve refused by 4", "curve refused by 5", "value of another kind"],
 ];
 
 #[derive(Default)]
@@ -26,11 +29,12 @@ pub struct Tally {
 }
 
 impl Tally {
-    pub fn add(&mut self, call: &Call, outcome: &Outcome) {
+    pub fn add(&mut self, call: &Call, compared: &Compared) {
         self.calls += 1;
         let offers = book::read(&call.book).map(|book| book.offers).ok();
         let mut kinds = vec![kind(call), size(offers.as_deref())];
-        match outcome {
+        kinds.extend(&compared.kinds);
+        match &compared.outcome {
             Outcome::Refused { number, place } => refusal(call, *number, *place, &mut kinds),
             Outcome::Cleared(clearing) => {
                 self.cleared += 1;

@@ -1,0 +1,15 @@
+"""Clears a capacity auction: a book of bytes goes in; cleared amounts, the price and the payments come out.
+
+Quantities are tenths of a megawatt, prices cents per MW-day, amounts of money mills (tenths of a cent). What is not
+there is None, never 0: a clearing with no price cleared nothing, and an offer whose price is missing is unpriced.
+"""
+from ._book import Book, Offer, Parameters, read
+from ._clearing import Clearing, Columns, Quote, Row, clear, clear_columns, quote
+from ._curve import Curve, curve, price_at
+from ._refusal import Fault, Refusal, report, version, words
+
+__version__ = "0.2.0"
+__all__ = [
+    "Book", "Clearing", "Columns", "Curve", "Fault", "Offer", "Parameters", "Quote", "Refusal", "Row",
+    "clear", "clear_columns", "curve", "price_at", "quote", "read", "report", "version", "words",
+]

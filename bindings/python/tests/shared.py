@@ -1,0 +1,19 @@
+"""What the tests share: the repository's folders on the path of imports, and its books."""
+import pathlib
+import sys
+
+ROOT = pathlib.Path(__file__).resolve().parents[3]
+PYTHON = ROOT / "bindings" / "python"
+VERDICTS = ROOT / "crates" / "verdicts"
+sys.path[:0] = [str(PYTHON), str(ROOT / "tests")]
+
+
+def reference():
+    return (ROOT / "examples" / "reference.book").read_bytes()
+
+
+def verdicts():
+    """Each book of the program `verdicts`: its name, its bytes, what clearing says of it, and how many rows are read."""
+    for line in (VERDICTS / "stdout").read_text().splitlines():
+        name, said = line.split(": ")
+        yield name, (VERDICTS / "data" / name).read_bytes(), said.split(", ")[0], int(said.split()[-1])

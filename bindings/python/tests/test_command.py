@@ -1,0 +1,114 @@
+"""The command `ozp`: what it says, and its exit status, whatever it is given."""
+import json
+import os
+import pathlib
+import pty
+import subprocess
+import sys
+import tempfile
+import unittest
+
+from shared import PYTHON, ROOT, VERDICTS, reference
+
+OZP = [sys.executable, "-m", "ozpinduru"]
+REFERENCE = str(ROOT / "examples" / "reference.book")
+UNPRICED = str(VERDICTS / "data" / "no-price-in-row-0.book")
+NOTHING = str(VERDICTS / "data" / "no-offers-length-512.book")
+GIVEN = "curve --year 2026 --cost 146000 --offset 73000 --outage 2000 --requirement 10000".split()
+SETTING = {**os.environ, "PYTHONPATH": str(PYTHON)}
+
+
+def ozp(*words, **streams):
+    """Exit status, standard output and standard error of a run."""
+    streams = {"stdout": subprocess.PIPE, "stderr": subprocess.PIPE, "env": SETTING, **streams}
+    done = subprocess.run(OZP + list(words), **streams)
+    return done.returncode, (done.stdout or b"").decode(), (done.stderr or b"").decode()
+
+
+class Says(unittest.TestCase):
+    def test_clear(self):
+        line = ("cleared 1,000.0 MW at $375.00 per MW-day; make-whole $637.500 a day, "
+                "paid $375,637.500 a day, $137,107,687.500 a year\n")
+        self.assertEqual(ozp("clear", REFERENCE), (0, f"{REFERENCE}: {line}", ""))
+        self.assertEqual(ozp("clear", "-", input=reference()), (0, f"-: {line}", ""))
+        status, said, _ = ozp("clear", NOTHING)
+        self.assertEqual((status, said.startswith(f"{NOTHING}: nothing cleared, no price; ")), (0, True))
+
+    def test_rows(self):
+        status, said, _ = ozp("rows", REFERENCE)
+        self.assertEqual((status, said.splitlines()[-1].split()), (0, ["2", "13", "3.3", "MW", "5.0", "MW", "$637.500"]))
+
+    def test_curve(self):
+        points = "990.0 MW at $500.00 per MW-day; 1,015.0 MW at $187.50 per MW-day; 1,045.0 MW at $0.00 per MW-day"
+        self.assertEqual(ozp(*GIVEN), (0, f"{points}\n", ""))
+        self.assertEqual(ozp("curve", REFERENCE, "--at", "10000")[:2],
+                         (0, f"{REFERENCE}: {points}; at 1,000.0 MW: $375.00 per MW-day\n"))
+        self.assertIn("past the last point", ozp(*GIVEN, "--at", "10451")[1])
+        self.assertEqual(ozp(*GIVEN[:-2])[:2],
+                         (1, "refused 4 at field 5 (reliability requirement): a parameter is missing\n"))
+
+    def test_json(self):
+        status, said, _ = ozp("clear", "--json", REFERENCE, UNPRICED, NOTHING)
+        cleared, refused, nothing = map(json.loads, said.splitlines())
+        self.assertEqual((status, cleared["price"], nothing["price"]), (1, 37_500, None))
+        self.assertEqual(refused["refused"], {"number": 6, "place": 0, "where": "row 0", "when": "an offer has no price"})
+        self.assertEqual(json.loads(ozp("rows", "--json", REFERENCE)[1])["rows"][2],
+                         {"resource": 13, "cleared": 33, "committed": 50, "make_whole": 637_500})
+        self.assertEqual(json.loads(ozp(*GIVEN, "--json", "--at", "10451")[1])["price_at"], None)
+
+    def test_example(self):
+        done = subprocess.run([sys.executable, str(PYTHON / "example.py")], capture_output=True, text=True, check=True)
+        self.assertEqual(done.stdout.splitlines()[0], "cleared 1000.0 MW at $375.00 per MW-day")
+
+    def test_help(self):
+        for words in ([], ["clear"], ["rows"], ["curve"]):
+            status, said, wrong = ozp(*words, "--help")
+            self.assertEqual((status, said.startswith("usage: ozp"), wrong), (0, True, ""))
+
+    def test_progress(self):
+        """A bar on a terminal, none in a file."""
+        mine, theirs = pty.openpty()
+        status, said, _ = ozp("clear", *[REFERENCE] * 40, stderr=theirs)
+        os.close(theirs)
+        self.assertEqual((status, len(said.splitlines())), (0, 40))
+        self.assertIn(b"40 of 40 books", os.read(mine, 100_000))
+        os.close(mine)
+        self.assertEqual(ozp("clear", *[REFERENCE] * 40)[2], "")
+
+
+class Fails(unittest.TestCase):
+    def one_line(self, status, result, pattern):
+        self.assertEqual((result[0], len(result[2].splitlines())), (status, 1), result)
+        self.assertRegex(result[2], pattern)
+
+    def test_refused(self):
+        self.assertEqual(ozp("clear", UNPRICED), (1, f"{UNPRICED}: refused 6 at row 0: an offer has no price\n", ""))
+        self.assertEqual(ozp("rows", REFERENCE, UNPRICED, NOTHING)[0], 1)
+        self.assertEqual(ozp("clear", "-", stdin=subprocess.DEVNULL)[0], 1)
+
+    def test_bad_usage(self):
+        for words in ([], ["clear"], ["sell"], ["rows", "--loud", REFERENCE], ["curve"], ["curve", REFERENCE, "--year", "2026"],
+                      ["curve", "--cost", "1"], [*GIVEN, "--at", "-1"], ["curve", "--year", "soon"], ["clear", "-", "-"]):
+            with self.subTest(words):
+                self.one_line(2, ozp(*words), "^ozp")
+
+    def test_unreadable(self):
+        with tempfile.TemporaryDirectory() as folder:
+            self.one_line(2, ozp("clear", folder), "Is a directory")
+            self.one_line(2, ozp("rows", REFERENCE, f"{folder}/none", UNPRICED), "No such file")
+            odd = os.path.join(os.fsencode(folder), b"odd\n\xff.book")
+            self.one_line(2, ozp("clear", odd), "No such file")
+            pathlib.Path(os.fsdecode(odd)).write_bytes(b"no book")
+            self.assertEqual(ozp("clear", odd)[::2], (1, ""))
+        self.one_line(2, ozp("clear", "-", preexec_fn=lambda: os.close(0)), "standard input is shut")
+
+    def test_unwritable(self):
+        for words in (["clear", REFERENCE], ["rows", "--json", REFERENCE], GIVEN, ["--help"], ["clear", "--help"], ["--version"]):
+            with self.subTest(words), open("/dev/full", "w") as full:
+                self.one_line(2, ozp(*words, stdout=full), "No space left on device")
+                self.one_line(2, ozp(*words, preexec_fn=lambda: os.close(1), stdout=None), "standard output is shut")
+                self.assertEqual(ozp(*words, stdout=full, stderr=full)[0], 2)
+        read, write = os.pipe()
+        os.close(read)
+        self.one_line(2, ozp("clear", REFERENCE, stdout=write), "Broken pipe")
+        os.close(write)

@@ -1,0 +1,69 @@
+//! The curve of parameters with values missing, of wrong kinds, and out of range.
+
+use crate::compare::same;
+use oracle::book::{Book, Fault, Parameters};
+use oracle::random::Rng;
+use oracle::{limits, make, price_at, Point};
+use ozpinduru::raw::{self, CurvePoints, CurvePrice, Value, NO_VALUE};
+
+/// Compares the curve of a book's parameters, or of those of the reference book, half of the time with values changed; says of
+/// which kind the parameters were.
+pub fn curve(read: &Result<Book, Fault>, rng: &mut Rng) -> Result<Vec<&'static str>, String> {
+    let p = read.as_ref().map_or_else(|_| make::reference(), |book| book.parameters.clone());
+    let changed = rng.percent(50);
+    let lent = [p.cost, p.offset, p.outage, p.requirement].map(|number| value(number, changed, rng));
+    let [cost, offset, outage, requirement] = lent;
+    let asked = raw::Parameters { year: p.year, cost, offset, outage, requirement };
+    let [cost, offset, outage, requirement] = lent.map(taken);
+    let p = Parameters { year: p.year, cost, offset, outage, requirement };
+    let odd = lent.iter().any(|value| ![raw::GIVEN, raw::MISSING].contains(&value.kind)).then_some("value of another kind");
+    let kind = match limits::missing(&p).or_else(|| limits::out_of_range(&p)) {
+        None => drawn(asked, &p.curve(), rng)?,
+        Some(fault) => refused(asked, fault, rng)?,
+    };
+    Ok([Some(kind), odd].into_iter().flatten().collect())
+}
+
+/// A value on its way in. One that is missing has any number.
+fn value(number: Option<u32>, changed: bool, rng: &mut Rng) -> Value {
+    let any = rng.pick(&[0, 1, 1_000, NO_VALUE]);
+    match (number, changed && rng.percent(20)) {
+        (_, true) => Value { kind: rng.pick(&[0, 2, 3, 4, 4, 5, NO_VALUE]), number: number.unwrap_or(any) },
+        (Some(number), false) => Value { kind: raw::GIVEN, number },
+        (None, false) => Value { kind: raw::MISSING, number: any },
+    }
+}
+
+/// What a value is taken for: one of another kind is out of every range.
+fn taken(value: Value) -> Option<u32> {
+    match value.kind {
+        raw::GIVEN => Some(value.number),
+        raw::MISSING => None,
+        _ => Some(NO_VALUE),
+    }
+}
+
+fn drawn(asked: raw::Parameters, points: &[Point; 3], rng: &mut Rng) -> Result<&'static str, String> {
+    let ([q1, q2, q3], [p1, p2, p3]) = (points.map(|point| point.quantity), points.map(|point| point.price));
+    let due = CurvePoints { kind: raw::GIVEN, p1, p2, p3, q1, q2, q3, number: NO_VALUE, place: NO_VALUE };
+    // SAFETY: the calls take numbers alone.
+    same("the curve", unsafe { raw::ozp_curve(asked) }, due)?;
+    let (first, second, any) = (rng.between32(q1, q2), rng.between32(q2, q3), rng.draw() as u32);
+    for k in [0, q1, q1 + 1, first, q2, q2 + 1, second, q3, q3 + 1, any] {
+        let (kind, price) = price_at(points, k).map_or((raw::NONE, NO_VALUE), |price| (raw::GIVEN, price));
+        let due = CurvePrice { kind, price, number: NO_VALUE, place: NO_VALUE };
+        // SAFETY: as above.
+        same(&format!("the price at {k}"), unsafe { raw::ozp_price_at(asked, k) }, due)?;
+    }
+    Ok("curve drawn")
+}
+
+fn refused(asked: raw::Parameters, (number, place): Fault, rng: &mut Rng) -> Result<&'static str, String> {
+    let no = NO_VALUE;
+    let due = CurvePoints { kind: raw::REFUSED, p1: no, p2: no, p3: no, q1: no, q2: no, q3: no, number, place };
+    // SAFETY: the calls take numbers alone.
+    same("the curve", unsafe { raw::ozp_curve(asked) }, due)?;
+    let price = unsafe { raw::ozp_price_at(asked, rng.draw() as u32) };
+    same("a price", price, CurvePrice { kind: raw::REFUSED, price: no, number, place })?;
+    Ok(if number == 4 { "curve refused by 4" } else { "curve refused by 5" })
+}
