@@ -1,5 +1,5 @@
 """A definition of a file of definitions or proofs: its lines, and the names that it speaks of."""
-from dataclasses import dataclass, field
+from dataclasses import dataclass
 
 from words import Walk, is_name, split_equation, words
 
@@ -11,14 +11,17 @@ class Definition:
     file: str
     name: str
     line: int
-    heads: list = field(default_factory=list)
-    sentence: str = ""
-    said: bool = False
-    inside: object = None
-    kind: str = "definition"
-    modifiers: str = ""
-    imports: object = None
-    own: dict = field(default_factory=dict)
+    # the lines of its type and of each equation, or of a record's head and of each field
+    heads: list
+    sentence: str
+    # the module in which it stands
+    inside: object
+    kind: str
+    modifiers: list
+    # what the file imports, and what it defines
+    imports: object
+    own: dict
+    # a theorem from which the walk starts, and a name that its file has twice
     root: bool = False
     twice: bool = False
 
@@ -63,6 +66,10 @@ class Definition:
             free = free + Walk(found[found.index(":") + 1:], bound).free
             bound = bound | {found[0]}
         return free
+
+    def types(self):
+        """Types of the code are imported like any other name."""
+        return []
 
     def equations(self):
         """The sides of each equation."""

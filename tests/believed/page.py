@@ -1,5 +1,5 @@
 """Writes docs/BELIEVED.md: everything that the roots rest on, in the order of a book's path."""
-from trace import ids, ids_of
+from outline import ids, ids_of
 
 HEAD = """# What must be believed
 
@@ -70,9 +70,10 @@ def crate_text(tree, crate, reached, first, outline):
     text = f"## {crate}\n\n"
     files = list(dict.fromkeys(made.file for made in reached.values() if made.crate == crate))
     places = {f"specs/{path}": place for place, path in enumerate(tree.modules(crate))}
-    for file in sorted(files, key=lambda file: (["src", "specs", "proofs"].index(file.split("/")[0]), places.get(file, 0), file)):
-        made = sorted((made for made in reached.values() if (made.crate, made.file) == (crate, file)), key=lambda one: one.line)
-        made = list(filter(listed, made))
+    parts = ["src", "specs", "proofs"]
+    for file in sorted(files, key=lambda file: (parts.index(file.split("/")[0]), places.get(file, 0), file)):
+        here = (one for one in reached.values() if (one.crate, one.file) == (crate, file) and listed(one))
+        made = sorted(here, key=lambda one: one.line)
         if made:
             text += f"**{file}.** {tree.file(crate, file).header}".rstrip() + "\n\n"
             text += table("definition", "lines", "for", "what it says", "outline")
@@ -85,13 +86,15 @@ def crate_text(tree, crate, reached, first, outline):
 
 def kit(tree):
     """The names of the toolchain's own libraries that the definitions are written with."""
-    text = "## Of the toolchain\n\nThe definitions are written with these names of the toolchain's libraries.\n\n" + table("library", "names")
+    text = "## Of the toolchain\n\nThe definitions are written with these names of the toolchain's libraries.\n\n"
+    text += table("library", "names")
     for path in sorted(tree.kit):
         text += row(path.replace("/", "."), ", ".join(f"`{name}`" for name in sorted(tree.kit[path])))
     return text
 
 
 def page(tree, lists, reached, first):
+    """The whole list."""
     outline = ids(tree)
     text = HEAD + counts(lists, reached, first) + stated(lists)
     for crate in order(tree, reached):

@@ -13,7 +13,7 @@ class Reader:
 
     def __init__(self, crate, file, path, crates):
         self.crate, self.file, self.imports = crate, file, Imports(crates)
-        self.found, self.own, self.modules, self.parts = [], {}, [], []
+        self.found, self.own, self.modules = [], {}, []
         self.comment, self.sentence, self.current, self.open = [], "", None, None
         self.header = ""
         for number, line in enumerate(path.read_text().splitlines(), 1):
@@ -23,6 +23,7 @@ class Reader:
                 raise Unread(f"{path}:{number}: {error}") from error
 
     def read(self, number, line):
+        """One line, by how far it stands in: what stands in a module stands two spaces further in than the module."""
         if not line.strip():
             self.comment = []
         elif line.lstrip().startswith("--"):
@@ -47,12 +48,12 @@ class Reader:
             self.comment.append(text)
 
     def head(self, number, line):
+        """A line that starts something: an import, a module, a definition, or one more equation of the definition above."""
         text = line.strip()
         first = text.split()[0]
         if first in ("use", "mod") or text.startswith(("pub use ", "pub mod ")):
             self.header = self.header or " ".join(filter(None, self.comment)).replace("Assumes nothing.", "").strip()
-            self.parts += re.findall(r"\bmod (\w+)", text)
-            return self.imports.add(text) if " use " in " " + text.split("{")[0] else None
+            return None if "mod" in text.split()[:2] else self.imports.add(text)
         if first == "module":
             self.start(number, line, f"module at {number}", "module")
             self.open = self.current
@@ -61,7 +62,7 @@ class Reader:
             return self.start(number, line, text.split("ruleset ")[1].split()[0], "rules")
         found = SIGNATURE.match(text)
         if found[2] or text[found.end():].lstrip().startswith(":") or text.endswith(" :"):
-            return self.start(number, line, found[3], "record" if found[2] else "definition", found[1])
+            return self.start(number, line, found[3], "record" if found[2] else "definition", found[1].split())
         if first == "infix":
             return None
         if text in CLOSE and self.current:
@@ -70,12 +71,12 @@ class Reader:
             raise Unread(text)
         self.current.heads.append([line])
 
-    def start(self, number, line, name, kind, modifiers=""):
+    def start(self, number, line, name, kind, modifiers=()):
         if self.comment:
             self.sentence = " ".join(self.comment)
         inside = self.modules[-1] if self.modules else None
-        self.current = Definition(self.crate, self.file, name, number, [[line]], self.sentence, bool(self.comment), inside, kind,
-                                  modifiers, self.imports, self.own)
+        self.current = Definition(self.crate, self.file, name, number, [[line]], self.sentence, inside, kind, modifiers,
+                                  self.imports, self.own)
         self.found.append(self.current)
         self.current.twice = name in self.own
         self.own.setdefault(name, self.current).twice |= self.current.twice

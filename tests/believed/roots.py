@@ -47,7 +47,7 @@ def theorems(tree):
         yield tree.file(there[0].parts[-3], f"proofs/{there[0].stem}").own[name]
     for table in TABLES:
         crate, _, name = table.partition("/")
-        yield from (made for made in tree.file(crate, name).found if "pub" in made.modifiers)
+        yield from (made for made in tree.file(crate, name).found if made.kind == "definition" and made.modifiers == ["pub"])
 
 
 def lists(tree):

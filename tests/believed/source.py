@@ -29,7 +29,6 @@ class Declared:
     exported: bool = False
     signature: str = ""
     arguments: set = field(default_factory=set)
-    said: bool = True
     inside: object = None
     root: bool = False
     twice: bool = False
@@ -47,6 +46,10 @@ class Declared:
         texts = [self.signature] if self.signature else self.lines
         written = [part for text in texts for part in re.findall(r":(?!:)[^:]*|\(.*\)|->.*", text)]
         return [name for part in written for name in re.findall(r"\b[A-Z]\w*", part)]
+
+    def equations(self):
+        """Code has none."""
+        return []
 
     def stated(self):
         """The free names of its clauses."""
@@ -99,7 +102,8 @@ class Source:
         return [line for line in lines[place:last + 1] if not line.strip().startswith("//")]
 
     def declare(self, name, place, lines, kind):
-        made = Declared(self.crate, "src/" + self.file, name, place + 1, lines, " ".join(self.comment), kind, self.imports, self.own)
+        sentence = " ".join(self.comment)
+        made = Declared(self.crate, "src/" + self.file, name, place + 1, lines, sentence, kind, self.imports, self.own)
         self.found.append(made)
         self.own[name] = made
         return made

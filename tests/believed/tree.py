@@ -10,6 +10,8 @@ ROOT = Path(__file__).resolve().parents[2]
 
 
 class Tree:
+    """The crates that stand in crates.txt and under crates/; those of crates.txt alone belong to the toolchain."""
+
     def __init__(self):
         listed = (line.split(":") for line in (ROOT / "crates.txt").read_text().splitlines() if ":" in line)
         self.below = {crate: rest.split() for crate, rest in listed}
@@ -28,6 +30,7 @@ class Tree:
         return [path for path in named if path in there]
 
     def named(self, folder, front, lib):
+        """What the `mod` lines of a file name; a folder has a file of its own name with its `mod` lines."""
         found = []
         for name in re.findall(r"^(?:pub )?mod (\w+)", lib.read_text(), re.M):
             inner = folder / front / name
@@ -49,12 +52,15 @@ class Tree:
     def at(self, target):
         """The definition that a target names; None for what belongs to the kit."""
         if target.crate is None:
+            crate = re.match(r"Rattle·(\w+)", target.path)
+            if crate and not any(crate[1] in below for below in self.below.values()):
+                raise Unread(f"no crate {crate[1]}")
             self.kit.setdefault(target.path, set()).add(target.name)
             return None
         file = self.file(target.crate, f"{target.part}/{target.path}")
         if target.name in file.own:
             return file.own[target.name]
-        if target.name in getattr(file.imports, "handed_on", ()):
+        if target.name in file.imports.handed_on:
             return self.at(file.imports.names[target.name])
         raise Unread(f"{target.name} is not in {target.crate}/{target.part}/{target.path}")
 
@@ -84,10 +90,10 @@ class Tree:
     def used(self, made):
         """The definitions that a definition speaks of, in order; of a theorem, only those of its statement."""
         words = list(made.stated())
-        if not made.root and hasattr(made, "equations"):
+        if not made.root:
             words += [word for left, right in made.equations() for word in self.equation(made, left, right)]
         found = [made.inside] if made.inside is not None else []
-        for word in words + (made.types() if hasattr(made, "types") else []):
+        for word in words + made.types():
             try:
                 found.append(self.resolve(made, word))
             except Unread as error:
@@ -95,12 +101,13 @@ class Tree:
         return [other for other in found if other is not None and other is not made]
 
     def walk(self, roots, reached):
-        """Adds to `reached` all that the roots rest on, what is used before what uses it. Of a root only what it states counts."""
+        """Adds to `reached` all that the roots rest on. Of a root only what it states counts."""
         for root in roots:
             root.root = True
             self.visit(root, reached)
 
     def visit(self, made, reached):
+        """Adds one definition, after all that it speaks of."""
         if made.key not in reached and made.key not in self.entered:
             self.entered.add(made.key)
             if made.twice:
