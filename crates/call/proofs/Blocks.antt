@@ -7,6 +7,8 @@ use mathlib.Core.List.{List}
 use Prim.Native.Nat.{ℕ, _<_}
 use lib.ListN.{length, List·getD-eq-default}
 use native.Mathlib.Omega.{arith}
+use contract.Lifetimes.{Lfts}
+use denote.Ref.{RefT, now}
 use Rattle.laws.proofs.Cases.{by-order}
 use Rattle.values.specs.Values.{held}
 use Rattle.values.specs.declared.place.Offer.{Offer}
@@ -19,6 +21,7 @@ use Rattle.call.specs.Demands.{SameOffer, SameButBlocks, ClearAlike}
 use Rattle.sale.specs.Payment.{clearingOf}
 use Rattle.sale.specs.declared.Clearing.{Clearing}
 use Rattle.call.specs.declared.Answer.the-variants.{Cleared as Answer·Cleared}
+use Rattle.call.proofs.Decided.{Called, call-outcome}
 use Rattle.call.proofs.Outcomes.{cleared-clearing, cleared-row}
 
 module _ (c c′ : Contents) (s : SameButBlocks c c′) where
@@ -56,20 +59,32 @@ module _ (c c′ : Contents) (s : SameButBlocks c c′) where
   row-same row = rw (total-same, offers-same)
 
 -- DEMAND 3. Two accepted books that differ in minimum blocks alone clear the same, at the same price.
-module _ (b cleared₀ committed₀ : List ℕ) (k : Clearing) (cleared₁ committed₁ : List ℕ)
-    (out : Outcome b cleared₀ committed₀ (Answer·Cleared k) cleared₁ committed₁)
-    (b′ cleared₀′ committed₀′ : List ℕ) (k′ : Clearing) (cleared₁′ committed₁′ : List ℕ)
-    (out′ : Outcome b′ cleared₀′ committed₀′ (Answer·Cleared k′) cleared₁′ committed₁′) where
-  pub call-blocks : SameButBlocks (contentsOf b) (contentsOf b′) → ClearAlike k k′ cleared₁ cleared₁′ (length (contentsOf b .offers))
+module _ (κs κs′ : Lfts 3) (book given lent cleared committed : RefT (List ℕ)) (k : Clearing)
+    (called : Called κs book given lent cleared committed (Answer·Cleared k))
+    (book′ given′ lent′ cleared′ committed′ : RefT (List ℕ)) (k′ : Clearing)
+    (called′ : Called κs′ book′ given′ lent′ cleared′ committed′ (Answer·Cleared k′)) where
+  abbrev b : List ℕ
+  b = now book
+
+  abbrev b′ : List ℕ
+  b′ = now book′
+
+  out : Outcome b (now given) (now lent) (Answer·Cleared k) (now cleared) (now committed)
+  out = call-outcome κs book given lent cleared committed (Answer·Cleared k) called
+
+  out′ : Outcome b′ (now given′) (now lent′) (Answer·Cleared k′) (now cleared′) (now committed′)
+  out′ = call-outcome κs′ book′ given′ lent′ cleared′ committed′ (Answer·Cleared k′) called′
+
+  pub call-blocks : SameButBlocks (contentsOf b) (contentsOf b′) → ClearAlike k k′ (now cleared) (now cleared′) (length (contentsOf b .offers))
   unfolding clearingOf
   call-blocks s =
-      let e = cleared-clearing b cleared₀ committed₀ k cleared₁ committed₁ out in
-      let e′ = cleared-clearing b′ cleared₀′ committed₀′ k′ cleared₁′ committed₁′ out′ in
+      let e = cleared-clearing b (now given) (now lent) k (now cleared) (now committed) out in
+      let e′ = cleared-clearing b′ (now given′) (now lent′) k′ (now cleared′) (now committed′) out′ in
       record {
         total = ap (λ (c : Clearing). c .total) e ∙ total-same (contentsOf b) (contentsOf b′) s ∙ sym (ap (λ (c : Clearing). c .total) e′);
         price = ap (λ (c : Clearing). c .price) e ∙ ap asPrice (price-same (contentsOf b) (contentsOf b′) s) ∙ sym (ap (λ (c : Clearing). c .price) e′);
         rows = λ row l.
-            cleared-row b cleared₀ committed₀ k cleared₁ committed₁ out row l
+            cleared-row b (now given) (now lent) k (now cleared) (now committed) out row l
             ∙ row-same (contentsOf b) (contentsOf b′) s row
-            ∙ sym (cleared-row b′ cleared₀′ committed₀′ k′ cleared₁′ committed₁′ out′ row (rw (s .count) at l));
+            ∙ sym (cleared-row b′ (now given′) (now lent′) k′ (now cleared′) (now committed′) out′ row (rw (s .count) at l));
       }

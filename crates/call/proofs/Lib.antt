@@ -1,7 +1,8 @@
 pub mod Calls
 pub mod Outcomes
+pub mod Decided
+pub mod Refusing
 pub mod Demands
 pub mod Nothing
 pub mod Blocks
 pub mod OneMore
-pub mod Decided

@@ -6,6 +6,8 @@ use mathlib.Core.Option.{none}
 use Prim.Native.Nat.{ℕ, _*_}
 use lib.ListN.{length}
 use native.Mathlib.Nat.{mul-zero}
+use contract.Lifetimes.{Lfts}
+use denote.Ref.{RefT, now}
 use Rattle.laws.proofs.Sums.{sumTo-none}
 use Rattle.calendar.specs.Year.{daysOf}
 use Rattle.auction.proofs.Price.{price-none}
@@ -18,6 +20,7 @@ use Rattle.call.specs.Demands.{NothingCleared}
 use Rattle.sale.specs.Payment.{clearingOf}
 use Rattle.sale.specs.declared.Clearing.{Clearing}
 use Rattle.call.specs.declared.Answer.the-variants.{Cleared as Answer·Cleared}
+use Rattle.call.proofs.Decided.{Called, call-outcome}
 use Rattle.call.proofs.Outcomes.{cleared-clearing}
 
 module _ (c : Contents) (e : price c ≡ none) where
@@ -33,10 +36,16 @@ module _ (c : Contents) (e : price c ≡ none) where
   unfolding yearTotal
   year-none = ap (λ (m : ℕ). daysOf (c .parameters .year) * m) daily-none ∙ mul-zero (daysOf (c .parameters .year))
 
-module _ (b cleared₀ committed₀ : List ℕ) (k : Clearing) (cleared₁ committed₁ : List ℕ)
-    (out : Outcome b cleared₀ committed₀ (Answer·Cleared k) cleared₁ committed₁) where
+module _ (κs : Lfts 3) (book given lent cleared committed : RefT (List ℕ)) (k : Clearing)
+    (called : Called κs book given lent cleared committed (Answer·Cleared k)) where
+  abbrev b : List ℕ
+  b = now book
+
+  out : Outcome b (now given) (now lent) (Answer·Cleared k) (now cleared) (now committed)
+  out = call-outcome κs book given lent cleared committed (Answer·Cleared k) called
+
   same : k ≡ clearingOf (contentsOf b)
-  same = cleared-clearing b cleared₀ committed₀ k cleared₁ committed₁ out
+  same = cleared-clearing b (now given) (now lent) k (now cleared) (now committed) out
 
   no-price-there : k .total ≡ 0 → price (contentsOf b) ≡ none
   unfolding price total clearingOf

@@ -8,6 +8,8 @@ use mathlib.Core.Option.{Option, none, some}
 use Prim.Native.Nat.{ℕ, suc, _≤_, _<_}
 use native.Mathlib.Numerals.{add-one}
 use lib.ListN.{length, length-append, List·getD-append}
+use contract.Lifetimes.{Lfts}
+use denote.Ref.{RefT, now}
 use Rattle.auction.specs.Clearing.{clearedTotal, clearingPrice}
 use Rattle.curve.specs.Price.{demandOf}
 use Rattle.region.specs.Region.{regionCurve}
@@ -29,6 +31,7 @@ use Rattle.sale.proofs.Ground.{clearable-falls}
 use Rattle.call.specs.Answer.{Outcome}
 use Rattle.call.specs.Demands.{OneMoreOffer}
 use Rattle.call.specs.declared.Answer.the-variants.{Cleared as Answer·Cleared}
+use Rattle.call.proofs.Decided.{Called, call-outcome}
 use Rattle.call.proofs.Outcomes.{cleared-accepted, cleared-clearing}
 
 module _ (c c′ : Contents) (m : OneMoreOffer c c′) where
@@ -53,22 +56,34 @@ quoted-there : (x : Option ℕ) (p : CentsPerMwDay) → Price p ≡ asPrice x �
 quoted-there none p e = cc
 quoted-there (some q) p e = cc
 
-module _ (b cleared₀ committed₀ : List ℕ) (k : Clearing) (cleared₁ committed₁ : List ℕ)
-    (out : Outcome b cleared₀ committed₀ (Answer·Cleared k) cleared₁ committed₁)
-    (b′ cleared₀′ committed₀′ : List ℕ) (k′ : Clearing) (cleared₁′ committed₁′ : List ℕ)
-    (out′ : Outcome b′ cleared₀′ committed₀′ (Answer·Cleared k′) cleared₁′ committed₁′)
-    (m : OneMoreOffer (contentsOf b) (contentsOf b′)) where
+module _ (κs κs′ : Lfts 3) (book given lent cleared committed : RefT (List ℕ)) (k : Clearing)
+    (called : Called κs book given lent cleared committed (Answer·Cleared k))
+    (book′ given′ lent′ cleared′ committed′ : RefT (List ℕ)) (k′ : Clearing)
+    (called′ : Called κs′ book′ given′ lent′ cleared′ committed′ (Answer·Cleared k′))
+    (m : OneMoreOffer (contentsOf (now book)) (contentsOf (now book′))) where
+  abbrev b : List ℕ
+  b = now book
+
+  abbrev b′ : List ℕ
+  b′ = now book′
+
+  out : Outcome b (now given) (now lent) (Answer·Cleared k) (now cleared) (now committed)
+  out = call-outcome κs book given lent cleared committed (Answer·Cleared k) called
+
+  out′ : Outcome b′ (now given′) (now lent′) (Answer·Cleared k′) (now cleared′) (now committed′)
+  out′ = call-outcome κs′ book′ given′ lent′ cleared′ committed′ (Answer·Cleared k′) called′
+
   dearer : NoDearer (demand (contentsOf b)) (offersOf (contentsOf b .offers)) (offersOf (contentsOf b′ .offers))
   dearer =
       one-more-no-dearer _ _ _
-      (clearable-falls (contentsOf b) (accepted-clearable b (cleared-accepted b cleared₀ committed₀ k cleared₁ committed₁ out)))
+      (clearable-falls (contentsOf b) (accepted-clearable b (cleared-accepted b (now given) (now lent) k (now cleared) (now committed) out)))
       (offers-more (contentsOf b) (contentsOf b′) m)
 
   abbrev here : k ≡ clearingOf (contentsOf b)
-  here = cleared-clearing b cleared₀ committed₀ k cleared₁ committed₁ out
+  here = cleared-clearing b (now given) (now lent) k (now cleared) (now committed) out
 
   abbrev there : k′ ≡ clearingOf (contentsOf b′)
-  there = cleared-clearing b′ cleared₀′ committed₀′ k′ cleared₁′ committed₁′ out′
+  there = cleared-clearing b′ (now given′) (now lent′) k′ (now cleared′) (now committed′) out′
 
   -- One more offer never lowers the total.
   pub call-one-more-total : k .total ≤ k′ .total

@@ -1,41 +1,17 @@
 // The call: a book of bytes and two result buffers go in; cleared megawatts, the price and the payments come out.
 mod rows;
 
-use crate::rows::FEW;
-use crate::rows::clear_few;
-use crate::rows::clear_many;
-use book::opened;
+use crate::rows::clear_measured;
 use layout::form::lengths;
 use sale::Clearing;
 use values::Verdict;
 ghost use mathlib.Core.Path.{_≡_};
-ghost use Rattle.values.specs.declared.Verdict.the-variants.{Passed};
-ghost use Rattle.layout.specs.Form.{lengthFault};
 ghost use Rattle.call.specs.Answer.{Outcome, answerOf};
 
 // What a call answers: the clearing, or the number and the place of the refusal and nothing else.
 pub enum Answer {
     Cleared(Clearing),
     Refused(u32, u32),
-}
-
-// Clears a book whose length holds. What it says before its rows is decoded once.
-fn clear_measured(book: &[u8], cleared: &mut [u32], committed: &mut [u32]) -> Answer
-    requires { ⌜ lengthFault (now book) ≡ Passed ⌝ }
-    ensures { λ r. ⌜ Outcome (now (book .entry)) (now (cleared .entry)) (now (committed .entry)) r (now (cleared .exit)) (now (committed .exit)) ⌝ }
-{
-    let head = opened(book);
-    let fault = head.fault;
-    if let Verdict::Refused(number, place) = fault {
-        return Answer::Refused(number, place);
-    }
-    let p = head.parameters;
-    let rows = head.rows;
-    if rows <= FEW {
-        clear_few(book, p, rows, cleared, committed)
-    } else {
-        clear_many(book, p, rows, cleared, committed)
-    }
 }
 
 // Clears a book. On a clearing the two buffers receive each row's cleared and committed tenths, and entries past the last

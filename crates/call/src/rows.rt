@@ -1,5 +1,6 @@
-// The rows of a book whose parameters and number of rows have passed: read once, into columns, and cleared.
+// A book whose length holds: what it says before its rows is decoded once, its rows are read once, into columns, and cleared.
 use crate::Answer;
+use book::opened;
 use book::rows::read_rows;
 use sale::payment::clearing;
 use values::Verdict;
@@ -7,6 +8,8 @@ use values::and_then;
 use values::head::Parameters;
 ghost use mathlib.Core.Path.{_≡_};
 ghost use Prim.Native.Nat.{_≤_};
+ghost use Rattle.values.specs.declared.Verdict.the-variants.{Passed};
+ghost use Rattle.layout.specs.Form.{lengthFault};
 ghost use Rattle.columns.specs.Columns.{columnsOf, Blank};
 ghost use Rattle.book.specs.Opening.{Opened};
 ghost use Rattle.call.specs.Answer.{Outcome, bufferFault};
@@ -55,10 +58,10 @@ fn clear_rows(
 }
 
 // The most rows of a book that is cleared in small columns: one block of them.
-pub(crate) const FEW: u32 = 15;
+const FEW: u32 = 15;
 
 // Clears a book of few rows.
-pub(crate) fn clear_few(
+fn clear_few(
     book: &[u8],
     p: Parameters,
     rows: u32,
@@ -88,7 +91,7 @@ pub(crate) fn clear_few(
 }
 
 // Clears a book of any number of rows.
-pub(crate) fn clear_many(
+fn clear_many(
     book: &[u8],
     p: Parameters,
     rows: u32,
@@ -115,4 +118,23 @@ pub(crate) fn clear_many(
         cleared,
         committed,
     )
+}
+
+// Clears a book whose length holds. What it says before its rows is decoded once.
+pub(crate) fn clear_measured(book: &[u8], cleared: &mut [u32], committed: &mut [u32]) -> Answer
+    requires { ⌜ lengthFault (now book) ≡ Passed ⌝ }
+    ensures { λ r. ⌜ Outcome (now (book .entry)) (now (cleared .entry)) (now (committed .entry)) r (now (cleared .exit)) (now (committed .exit)) ⌝ }
+{
+    let head = opened(book);
+    let fault = head.fault;
+    if let Verdict::Refused(number, place) = fault {
+        return Answer::Refused(number, place);
+    }
+    let p = head.parameters;
+    let rows = head.rows;
+    if rows <= FEW {
+        clear_few(book, p, rows, cleared, committed)
+    } else {
+        clear_many(book, p, rows, cleared, committed)
+    }
 }

@@ -4,8 +4,8 @@ use mathlib.Core.Path.{sym, _∙_}
 use borrow.Author.Needs.{needs}
 use Rattle.book.specs.Opening.{Opened}
 use Rattle.call.proofs.Calls.{fault-before, outcome-refused}
-use Rattle.call.proofs.clear_measured.Statement.{statement}
-use Rattle.call.proofs.clear_measured.Tie as tie
+use Rattle.call.proofs.rows.clear_measured.Statement.{statement}
+use Rattle.call.proofs.rows.clear_measured.Tie as tie
 
 opened-requires : tie.Need-opened-requires
 opened-requires c κs = search needs
