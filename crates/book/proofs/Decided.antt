@@ -1,13 +1,22 @@
--- The contracts of `verdict` and `soundness` leave one answer: any two that a contract allows for the same bytes coincide,
--- wherever the books lie.
+-- The contracts of this crate leave one answer and one content of each column: any two that a contract allows for the same
+-- bytes coincide.
+--
+-- In order: `verdict` and `soundness`, wherever the books lie; what a book says before its rows; the rows in columns.
 -- Assumes nothing.
 use mathlib.Core.Path.{_≡_, sym, ap, _∙_}
+use mathlib.Core.Bool.{Bool}
 use mathlib.Core.List.{List}
 use Prim.Native.Nat.{ℕ}
 use contract.Lifetimes.{Lfts}
 use denote.Ref.{RefT, now}
 use Rattle.values.specs.declared.Verdict.{Verdict}
 use Rattle.book.specs.Faults.{firstFault, soundFault}
+use Rattle.book.specs.Rows.{RowsRead}
+use Rattle.book.specs.declared.Opening.{Opening}
+use Rattle.columns.specs.Columns.{Columns, columnsOf}
+use Rattle.values.specs.declared.place.Offer.{Offer}
+use Rattle.book.proofs.opened.Reads as opened
+use Rattle.book.proofs.rows.read_rows.Reads as read-rows
 use Rattle.book.proofs.verdict.Reads as verdict
 use Rattle.book.proofs.soundness.Reads as soundness
 
@@ -26,3 +35,40 @@ pub soundness-decided : (κs : Lfts 1) (book other : RefT (List ℕ)) (r s : Ver
     → soundness.Post κs (other, tt) s (other, tt)
     → r ≡ s
 soundness-decided κs book other r s same e f = e ∙ ap soundFault same ∙ sym f
+
+-- what a book says before its rows, by the contract of `opened`
+pub opened-decided : (κs : Lfts 1) (book : RefT (List ℕ)) (r s : Opening)
+    → opened.Post κs (book, tt) r (book, tt) → opened.Post κs (book, tt) s (book, tt) → r ≡ s
+opened-decided κs book r s e f = λ i.
+    record {
+      fault = (e .fault ∙ sym (f .fault)) i;
+      parameters = (e .parameters ∙ sym (f .parameters)) i;
+      rows = (e .rows ∙ sym (f .rows)) i;
+    }
+
+-- what reading rows yields is one verdict and one content of the columns
+rows-alone : (needed : Bool) (offers : List Offer) (r s : Verdict) (before after other : Columns)
+    → RowsRead needed offers r before after → RowsRead needed offers s before other → (r ≡ s) × (after ≡ other)
+rows-alone needed offers r s before after other e f = (
+  e .found ∙ sym (f .found),
+  λ i.
+  record {
+    prices = (e .read .price ∙ sym (f .read .price)) i;
+    quantities = (e .read .quantity ∙ sym (f .read .quantity)) i;
+    leasts = (e .read .least ∙ sym (f .read .least)) i;
+    resources = (e .read .resource ∙ sym (f .read .resource)) i;
+    stamps = (e .read .stamp ∙ sym (f .read .stamp)) i;
+  },
+)
+
+-- the first fault of rows and their columns, by the contract of `read_rows`, refused or not
+pub read-rows-decided : (κs : Lfts 6) (book : RefT (List ℕ)) (first n : ℕ) (needed : Bool)
+    (p q l m t p₁ q₁ l₁ m₁ t₁ p₂ q₂ l₂ m₂ t₂ : RefT (List ℕ)) (r s : Verdict)
+    → read-rows.Post κs (book, (first, (n, (needed, (p, (q, (l, (m, (t, tt))))))))) r
+    (book, (first, (n, (needed, (p₁, (q₁, (l₁, (m₁, (t₁, tt)))))))))
+    → read-rows.Post κs (book, (first, (n, (needed, (p, (q, (l, (m, (t, tt))))))))) s
+    (book, (first, (n, (needed, (p₂, (q₂, (l₂, (m₂, (t₂, tt)))))))))
+    → (r ≡ s)
+    × (columnsOf (now p₁) (now q₁) (now l₁) (now m₁) (now t₁) ≡ columnsOf (now p₂) (now q₂) (now l₂) (now m₂) (now t₂))
+read-rows-decided κs book first n needed p q l m t p₁ q₁ l₁ m₁ t₁ p₂ q₂ l₂ m₂ t₂ r s e f =
+    rows-alone needed _ r s _ _ _ e f

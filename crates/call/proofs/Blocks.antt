@@ -59,32 +59,32 @@ module _ (c c′ : Contents) (s : SameButBlocks c c′) where
   row-same row = rw (total-same, offers-same)
 
 -- DEMAND 3. Two accepted books that differ in minimum blocks alone clear the same, at the same price.
-module _ (κs κs′ : Lfts 3) (book given lent cleared committed : RefT (List ℕ)) (k : Clearing)
-    (called : Called κs book given lent cleared committed (Answer·Cleared k))
-    (book′ given′ lent′ cleared′ committed′ : RefT (List ℕ)) (k′ : Clearing)
-    (called′ : Called κs′ book′ given′ lent′ cleared′ committed′ (Answer·Cleared k′)) where
+module _ (κs κs′ : Lfts 3) (book cleared₀ committed₀ cleared₁ committed₁ : RefT (List ℕ)) (k : Clearing)
+    (called : Called κs book cleared₀ committed₀ cleared₁ committed₁ (Answer·Cleared k))
+    (book′ cleared₀′ committed₀′ cleared₁′ committed₁′ : RefT (List ℕ)) (k′ : Clearing)
+    (called′ : Called κs′ book′ cleared₀′ committed₀′ cleared₁′ committed₁′ (Answer·Cleared k′)) where
   abbrev b : List ℕ
   b = now book
 
   abbrev b′ : List ℕ
   b′ = now book′
 
-  out : Outcome b (now given) (now lent) (Answer·Cleared k) (now cleared) (now committed)
-  out = call-outcome κs book given lent cleared committed (Answer·Cleared k) called
+  out : Outcome b (now cleared₀) (now committed₀) (Answer·Cleared k) (now cleared₁) (now committed₁)
+  out = call-outcome κs book cleared₀ committed₀ cleared₁ committed₁ (Answer·Cleared k) called
 
-  out′ : Outcome b′ (now given′) (now lent′) (Answer·Cleared k′) (now cleared′) (now committed′)
-  out′ = call-outcome κs′ book′ given′ lent′ cleared′ committed′ (Answer·Cleared k′) called′
+  out′ : Outcome b′ (now cleared₀′) (now committed₀′) (Answer·Cleared k′) (now cleared₁′) (now committed₁′)
+  out′ = call-outcome κs′ book′ cleared₀′ committed₀′ cleared₁′ committed₁′ (Answer·Cleared k′) called′
 
-  pub call-blocks : SameButBlocks (contentsOf b) (contentsOf b′) → ClearAlike k k′ (now cleared) (now cleared′) (length (contentsOf b .offers))
+  pub call-blocks : SameButBlocks (contentsOf b) (contentsOf b′) → ClearAlike k k′ (now cleared₁) (now cleared₁′) (length (contentsOf b .offers))
   unfolding clearingOf
   call-blocks s =
-      let e = cleared-clearing b (now given) (now lent) k (now cleared) (now committed) out in
-      let e′ = cleared-clearing b′ (now given′) (now lent′) k′ (now cleared′) (now committed′) out′ in
+      let e = cleared-clearing b (now cleared₀) (now committed₀) k (now cleared₁) (now committed₁) out in
+      let e′ = cleared-clearing b′ (now cleared₀′) (now committed₀′) k′ (now cleared₁′) (now committed₁′) out′ in
       record {
         total = ap (λ (c : Clearing). c .total) e ∙ total-same (contentsOf b) (contentsOf b′) s ∙ sym (ap (λ (c : Clearing). c .total) e′);
         price = ap (λ (c : Clearing). c .price) e ∙ ap asPrice (price-same (contentsOf b) (contentsOf b′) s) ∙ sym (ap (λ (c : Clearing). c .price) e′);
         rows = λ row l.
-            cleared-row b (now given) (now lent) k (now cleared) (now committed) out row l
+            cleared-row b (now cleared₀) (now committed₀) k (now cleared₁) (now committed₁) out row l
             ∙ row-same (contentsOf b) (contentsOf b′) s row
-            ∙ sym (cleared-row b′ (now given′) (now lent′) k′ (now cleared′) (now committed′) out′ row (rw (s .count) at l));
+            ∙ sym (cleared-row b′ (now cleared₀′) (now committed₀′) k′ (now cleared₁′) (now committed₁′) out′ row (rw (s .count) at l));
       }

@@ -44,13 +44,13 @@ byPrice-agree d o x y e h =
       nothing = λ p f i l g. e i l ∙ h .nothing p f i l g;
     }
 
-module _ (κs : Lfts 3) (book given lent cleared committed : RefT (List ℕ)) (k : Clearing)
-    (called : Called κs book given lent cleared committed (Answer·Cleared k)) where
+module _ (κs : Lfts 3) (book cleared₀ committed₀ cleared₁ committed₁ : RefT (List ℕ)) (k : Clearing)
+    (called : Called κs book cleared₀ committed₀ cleared₁ committed₁ (Answer·Cleared k)) where
   abbrev b : List ℕ
   b = now book
 
-  out : Outcome b (now given) (now lent) (Answer·Cleared k) (now cleared) (now committed)
-  out = call-outcome κs book given lent cleared committed (Answer·Cleared k) called
+  out : Outcome b (now cleared₀) (now committed₀) (Answer·Cleared k) (now cleared₁) (now committed₁)
+  out = call-outcome κs book cleared₀ committed₀ cleared₁ committed₁ (Answer·Cleared k) called
 
   -- what the book says, the curve that its parameters select, and its offers
   abbrev said : Contents
@@ -64,27 +64,27 @@ module _ (κs : Lfts 3) (book given lent cleared committed : RefT (List ℕ)) (k
 
   -- the numbers in the cleared buffer
   abbrev amounts : ℕ → ℕ
-  amounts row = getD (now cleared) row 0
+  amounts row = getD (now cleared₁) row 0
 
   clearable : Clearable said
-  clearable = accepted-clearable b (cleared-accepted b (now given) (now lent) k (now cleared) (now committed) out)
+  clearable = accepted-clearable b (cleared-accepted b (now cleared₀) (now committed₀) k (now cleared₁) (now committed₁) out)
 
   -- DEMAND 2. The cleared total is the largest quantity that offers priced at or under the curve there can supply.
   pub call-total : IsTotal asked offered (k .total)
   unfolding total clearingOf
-  call-total = rw (ap (λ (c : Clearing). c .total) (cleared-clearing b (now given) (now lent) k (now cleared) (now committed) out)) (total-is-largest asked offered)
+  call-total = rw (ap (λ (c : Clearing). c .total) (cleared-clearing b (now cleared₀) (now committed₀) k (now cleared₁) (now committed₁) out)) (total-is-largest asked offered)
 
   -- The price is the clearing price, or its absence.
   pub call-price : k .price ≡ asPrice (clearingPrice asked offered)
   unfolding price clearingOf
-  call-price = ap (λ (c : Clearing). c .price) (cleared-clearing b (now given) (now lent) k (now cleared) (now committed) out)
+  call-price = ap (λ (c : Clearing). c .price) (cleared-clearing b (now cleared₀) (now committed₀) k (now cleared₁) (now committed₁) out)
 
   -- DEMAND 2. Every offer under the price clears in full, every offer over it nothing, and the amounts add up to the total.
   pub call-by-price : ByPrice asked offered amounts
   unfolding rowCleared total offersOf
   call-by-price =
       byPrice-agree asked offered (cleared offered (clearedTotal asked offered)) amounts
-      (λ i l. cleared-row b (now given) (now lent) k (now cleared) (now committed) out i l)
+      (λ i l. cleared-row b (now cleared₀) (now committed₀) k (now cleared₁) (now committed₁) out i l)
       (cleared-byPrice asked offered (clearable-falls said clearable) (clearable-proper said clearable))
 
   -- DEMAND 3. No other choice of amounts leaves more surplus, and none with equal surplus clears more.
@@ -96,5 +96,5 @@ module _ (κs : Lfts 3) (book given lent cleared committed : RefT (List ℕ)) (k
   unfolding rowCleared total offersOf
   call-shares =
       divided-agree offered (clearedTotal asked offered) (cleared offered (clearedTotal asked offered)) amounts
-      (λ i l. cleared-row b (now given) (now lent) k (now cleared) (now committed) out i l)
+      (λ i l. cleared-row b (now cleared₀) (now committed₀) k (now cleared₁) (now committed₁) out i l)
       (cleared-divided offered (clearedTotal asked offered) (clearable-proper said clearable))

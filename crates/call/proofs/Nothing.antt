@@ -36,16 +36,16 @@ module _ (c : Contents) (e : price c ≡ none) where
   unfolding yearTotal
   year-none = ap (λ (m : ℕ). daysOf (c .parameters .year) * m) daily-none ∙ mul-zero (daysOf (c .parameters .year))
 
-module _ (κs : Lfts 3) (book given lent cleared committed : RefT (List ℕ)) (k : Clearing)
-    (called : Called κs book given lent cleared committed (Answer·Cleared k)) where
+module _ (κs : Lfts 3) (book cleared₀ committed₀ cleared₁ committed₁ : RefT (List ℕ)) (k : Clearing)
+    (called : Called κs book cleared₀ committed₀ cleared₁ committed₁ (Answer·Cleared k)) where
   abbrev b : List ℕ
   b = now book
 
-  out : Outcome b (now given) (now lent) (Answer·Cleared k) (now cleared) (now committed)
-  out = call-outcome κs book given lent cleared committed (Answer·Cleared k) called
+  out : Outcome b (now cleared₀) (now committed₀) (Answer·Cleared k) (now cleared₁) (now committed₁)
+  out = call-outcome κs book cleared₀ committed₀ cleared₁ committed₁ (Answer·Cleared k) called
 
   same : k ≡ clearingOf (contentsOf b)
-  same = cleared-clearing b (now given) (now lent) k (now cleared) (now committed) out
+  same = cleared-clearing b (now cleared₀) (now committed₀) k (now cleared₁) (now committed₁) out
 
   no-price-there : k .total ≡ 0 → price (contentsOf b) ≡ none
   unfolding price total clearingOf

@@ -56,10 +56,10 @@ quoted-there : (x : Option ℕ) (p : CentsPerMwDay) → Price p ≡ asPrice x �
 quoted-there none p e = cc
 quoted-there (some q) p e = cc
 
-module _ (κs κs′ : Lfts 3) (book given lent cleared committed : RefT (List ℕ)) (k : Clearing)
-    (called : Called κs book given lent cleared committed (Answer·Cleared k))
-    (book′ given′ lent′ cleared′ committed′ : RefT (List ℕ)) (k′ : Clearing)
-    (called′ : Called κs′ book′ given′ lent′ cleared′ committed′ (Answer·Cleared k′))
+module _ (κs κs′ : Lfts 3) (book cleared₀ committed₀ cleared₁ committed₁ : RefT (List ℕ)) (k : Clearing)
+    (called : Called κs book cleared₀ committed₀ cleared₁ committed₁ (Answer·Cleared k))
+    (book′ cleared₀′ committed₀′ cleared₁′ committed₁′ : RefT (List ℕ)) (k′ : Clearing)
+    (called′ : Called κs′ book′ cleared₀′ committed₀′ cleared₁′ committed₁′ (Answer·Cleared k′))
     (m : OneMoreOffer (contentsOf (now book)) (contentsOf (now book′))) where
   abbrev b : List ℕ
   b = now book
@@ -67,23 +67,23 @@ module _ (κs κs′ : Lfts 3) (book given lent cleared committed : RefT (List �
   abbrev b′ : List ℕ
   b′ = now book′
 
-  out : Outcome b (now given) (now lent) (Answer·Cleared k) (now cleared) (now committed)
-  out = call-outcome κs book given lent cleared committed (Answer·Cleared k) called
+  out : Outcome b (now cleared₀) (now committed₀) (Answer·Cleared k) (now cleared₁) (now committed₁)
+  out = call-outcome κs book cleared₀ committed₀ cleared₁ committed₁ (Answer·Cleared k) called
 
-  out′ : Outcome b′ (now given′) (now lent′) (Answer·Cleared k′) (now cleared′) (now committed′)
-  out′ = call-outcome κs′ book′ given′ lent′ cleared′ committed′ (Answer·Cleared k′) called′
+  out′ : Outcome b′ (now cleared₀′) (now committed₀′) (Answer·Cleared k′) (now cleared₁′) (now committed₁′)
+  out′ = call-outcome κs′ book′ cleared₀′ committed₀′ cleared₁′ committed₁′ (Answer·Cleared k′) called′
 
   dearer : NoDearer (demand (contentsOf b)) (offersOf (contentsOf b .offers)) (offersOf (contentsOf b′ .offers))
   dearer =
       one-more-no-dearer _ _ _
-      (clearable-falls (contentsOf b) (accepted-clearable b (cleared-accepted b (now given) (now lent) k (now cleared) (now committed) out)))
+      (clearable-falls (contentsOf b) (accepted-clearable b (cleared-accepted b (now cleared₀) (now committed₀) k (now cleared₁) (now committed₁) out)))
       (offers-more (contentsOf b) (contentsOf b′) m)
 
   abbrev here : k ≡ clearingOf (contentsOf b)
-  here = cleared-clearing b (now given) (now lent) k (now cleared) (now committed) out
+  here = cleared-clearing b (now cleared₀) (now committed₀) k (now cleared₁) (now committed₁) out
 
   abbrev there : k′ ≡ clearingOf (contentsOf b′)
-  there = cleared-clearing b′ (now given′) (now lent′) k′ (now cleared′) (now committed′) out′
+  there = cleared-clearing b′ (now cleared₀′) (now committed₀′) k′ (now cleared₁′) (now committed₁′) out′
 
   -- One more offer never lowers the total.
   pub call-one-more-total : k .total ≤ k′ .total

@@ -1,2 +1,3 @@
 pub mod Answers
 pub mod Fitting
+pub mod Decided

@@ -2,3 +2,4 @@ pub mod Ground
 pub mod Sales
 pub mod SaleLaws
 pub mod Payments
+pub mod Decided

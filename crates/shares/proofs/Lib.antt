@@ -6,3 +6,4 @@ pub mod Given
 pub mod Holding
 pub mod Tenths
 pub mod Outcome
+pub mod Decided

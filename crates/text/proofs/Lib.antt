@@ -3,3 +3,4 @@ pub mod Fills
 pub mod DigitCounts
 pub mod Numbers
 pub mod Examples
+pub mod Decided

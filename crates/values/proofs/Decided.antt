@@ -17,6 +17,8 @@ use Rattle.values.specs.Place.{offerOf}
 use Rattle.values.specs.declared.Value.{Value}
 use Rattle.values.specs.declared.head.Parameters.{Parameters}
 use Rattle.values.specs.declared.place.Offer.{Offer}
+use Rattle.values.specs.declared.Verdict.{Verdict}
+use Rattle.values.proofs.and_then.Reads as and-then
 use Rattle.values.proofs.value_at.Reads as value-at
 use Rattle.values.proofs.number_held.Reads as number-held
 use Rattle.values.proofs.least_of.Reads as least-of
@@ -28,6 +30,11 @@ use Rattle.values.proofs.place.offer_in.Reads as offer-in
 pub number-held-decided : (v : Value) (r s : ℕ)
     → number-held.Post tt (v, tt) r (v, tt) → number-held.Post tt (v, tt) s (v, tt) → r ≡ s
 number-held-decided v r s e f = e ∙ sym f
+
+-- the first fault of two tests, by the contract of `and_then`
+pub and-then-decided : (test next r s : Verdict)
+    → and-then.Post tt (test, (next, tt)) r (test, (next, tt)) → and-then.Post tt (test, (next, tt)) s (test, (next, tt)) → r ≡ s
+and-then-decided test next r s e f = e ∙ sym f
 
 -- the least that is committed, by the contract of `least_of`
 pub least-of-decided : (v : Value) (r s : ℕ)
