@@ -34,10 +34,10 @@ cast-if1 : tie.Need-cast-if1
 cast-if1 c = search needs
 
 returns-2 : tie.Need-returns-2
-returns-2 c = read-short _ _ (formed (c .before .before)) (omega (arith, c .if1 .taken, c .before .offer-count .ensures .0, contents-count _))
+returns-2 c = read-short _ _ (formed (c .before .before)) (omega (arith, c .if1 .taken, c .before .offer-count .ensures .0 ∙ contents-count _))
 
 returns-3 : tie.Need-returns-3
-returns-3 c = read-passed _ _ (formed (c .before .before)) (omega (arith, c .if1 .left, c .before .offer-count .ensures .0, contents-count _))
+returns-3 c = read-passed _ _ (formed (c .before .before)) (omega (arith, c .if1 .left, c .before .offer-count .ensures .0 ∙ contents-count _))
 
 pub read-fault-spec : {M : Type 1} → statement M
 read-fault-spec =

@@ -7,7 +7,7 @@ use Rattle.ozpinduru.proofs.listed.row_at.Statement.{statement}
 use Rattle.ozpinduru.proofs.listed.row_at.Tie as tie
 
 row-bytes-requires : tie.Need-row-bytes-requires
-row-bytes-requires c κs = row-inside _ _ (c .pre)
+row-bytes-requires c κs = row-inside _ _ (c .before .pre)
 
 offer-in-requires : tie.Need-offer-in-requires
 offer-in-requires c κs = search needs
@@ -18,7 +18,7 @@ offer-out-requires c κs = search needs
 returns : tie.Need-returns
 returns c =
     let read = c .before .before in
-    c .offer-out .ensures ∙ row-read _ _ (read .before .pre) _ _ (read .row-bytes .ensures .0) (c .before .offer-in .ensures)
+    c .offer-out .ensures ∙ row-read _ _ (read .before .before .pre) _ _ (read .row-bytes .ensures .0) (c .before .offer-in .ensures)
 
 pub row-at-spec : {M : Type 1} → statement M
 row-at-spec = tie.close (tie.spec row-bytes-requires offer-in-requires offer-out-requires returns)
