@@ -10,8 +10,11 @@ use lib.ListN.{length, getD}
 use Rattle.auction.specs.Settlement.{mills}
 use Rattle.values.specs.declared.Verdict.{Verdict}
 use Rattle.values.specs.declared.Verdict.the-variants.{Passed, Refused}
+use Rattle.values.specs.Contents.{offerAt}
+use Rattle.values.specs.declared.place.Offer.{Offer}
 use Rattle.layout.specs.Form.{offerCount}
-use Rattle.layout.specs.Read.{bookParameters, bookOffer}
+use Rattle.layout.specs.Read.{rowOffer, contentsOf}
+use Rattle.layout.proofs.Contained.{contents-count, contents-offer}
 use Rattle.book.specs.Faults.{firstFault}
 use Rattle.sale.specs.Auction.{total, price, rowCleared, rowCommitted, rowMakeWhole, dailyTotal, yearTotal}
 use Rattle.sale.specs.Payment.{clearingOf}
@@ -27,18 +30,25 @@ use Rattle.report.specs.Report.{soldText, clearingText, reportBy, report
 use Rattle.report.proofs.Fitting.{rowsText-ext}
 
 module _ (b : List ℕ) where
-  -- the lines of the book's own clearing
+  -- a row's line, with the resource that its own bytes hold
+  abbrev line : ℕ → ℕ → ℕ → ℕ → List ℕ
+  line resource x y row = rowText resource x y (mills (price (contentsOf b)) (y - x))
+
+  -- the lines of the clearing of what a book says
   sold-clearing : (cleared committed : List ℕ)
-      → ((row : ℕ) → row < offerCount b → getD cleared row 0 ≡ rowCleared b (bookParameters b) row)
-      → ((row : ℕ) → row < offerCount b → getD committed row 0 ≡ rowCommitted b (bookParameters b) row)
-      → soldText b (clearingOf b (bookParameters b)) cleared committed ≡ clearingText b
+      → ((row : ℕ) → row < length (contentsOf b .offers) → getD cleared row 0 ≡ rowCleared (contentsOf b) row)
+      → ((row : ℕ) → row < length (contentsOf b .offers) → getD committed row 0 ≡ rowCommitted (contentsOf b) row)
+      → soldText b (clearingOf (contentsOf b)) cleared committed ≡ clearingText (contentsOf b)
   unfolding soldText clearingText clearingOf rowCommitted rowMakeWhole
   sold-clearing cleared committed h k =
-      let p = bookParameters b in
-      let line : (row : ℕ) → ℕ → ℕ → List ℕ = λ row x y. rowText (bookOffer b row .resource) x y (mills (price b p) (y - x)) in
-      rw (quoted-asPrice (price b p))
-      (ap (λ (rows : List ℕ). lineText clearedWord (total b p) ++ priceText (price b p) ++ rows ++ lineText dailyWord (dailyTotal b p) ++ lineText yearWord (yearTotal b p))
-      (rowsText-ext _ _ (offerCount b) (λ row l. ap₂ (line row) (h row l) (k row l))))
+      let c = contentsOf b in
+      rw (quoted-asPrice (price c), contents-count b)
+      (ap (λ (rows : List ℕ). lineText clearedWord (total c) ++ priceText (price c) ++ rows ++ lineText dailyWord (dailyTotal c) ++ lineText yearWord (yearTotal c))
+      (rowsText-ext _ _ (length (c .offers))
+      (λ row l.
+      ap (λ (o : Offer). line (o .resource) (getD cleared row 0) (getD committed row 0) row)
+      (sym (contents-offer b row (rw (contents-count b) l)))
+      ∙ ap₂ (λ (x y : ℕ). line (offerAt (c .offers) row .resource) x y row) (h row l) (k row l))))
 
 module _ (b cleared committed : List ℕ) (answer : Answer) (cleared′ committed′ : List ℕ)
     (out : Outcome b cleared committed answer cleared′ committed′) where
@@ -56,12 +66,12 @@ module _ (b cleared committed : List ℕ) (answer : Answer) (cleared′ committe
       ap (λ (k : Clearing). soldText b k cleared′ committed′) (cleared-clearing b cleared committed c cleared′ committed′ o)
       ∙ sold-clearing b cleared′ committed′ (cleared-row b cleared committed c cleared′ committed′ o)
       (committed-row b cleared committed c cleared′ committed′ o)
-      ∙ sym (ap (λ (v : Verdict). reportBy v (clearingText b)) (answered-accepted c e))
+      ∙ sym (ap (λ (v : Verdict). reportBy v (clearingText (contentsOf b))) (answered-accepted c e))
 
   pub refusal-reported : (number place : ℕ) → 600 ≤ length cleared → 600 ≤ length committed
       → answer ≡ Answer·Refused number place → refusalText number place ≡ reportText b
   unfolding reportText
   refusal-reported number place h k e =
       let first = refused-first b cleared committed number place cleared′ committed′ (as-answered (Answer·Refused number place) e) in
-      sym (ap (λ (v : Verdict). reportBy v (clearingText b))
+      sym (ap (λ (v : Verdict). reportBy v (clearingText (contentsOf b)))
       (sym (fault-first b (length cleared) (length committed) h k) ∙ first))

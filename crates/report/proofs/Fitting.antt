@@ -16,7 +16,7 @@ use Rattle.market.specs.declared.price.ClearingPrice.the-variants.{Price, NoPri
 use Rattle.values.specs.Place.{offerOf}
 use Rattle.values.specs.declared.place.Offer.{Offer}
 use Rattle.layout.specs.Blocks.{rowBytes}
-use Rattle.layout.specs.Read.{bookOffer}
+use Rattle.layout.specs.Read.{rowOffer}
 use Rattle.settle.specs.Read.{quoted}
 use Rattle.report.specs.Lines.{priceWord, noPriceLine, endedText, lineText, priceText, rowText, rowsText, Fitted}
 
@@ -80,8 +80,8 @@ module _ {out : List ℕ} {at : ℕ} {after : List ℕ} {end : ℕ} {quote : Cle
 pub row-told : {out : List ℕ} {at : ℕ} {after : List ℕ} {end : ℕ} (b part : List ℕ) (row cleared committed paid mills : ℕ)
     (o : Offer) → part ≡ rowBytes b 1 row → o ≡ offerOf part → paid ≡ mills
     → Fitted out at (rowText (o .resource) cleared committed paid) after end
-    → Fitted out at (rowText (bookOffer b row .resource) cleared committed mills) after end
-unfolding bookOffer
+    → Fitted out at (rowText (rowOffer b 1 row .resource) cleared committed mills) after end
+unfolding rowOffer
 row-told {out} {at} {after} {end} b part row cleared committed paid mills o e f g fit =
     subst₂ (λ (r m : ℕ). Fitted out at (rowText r cleared committed m) after end)
     (ap (λ (v : Offer). v .resource) (f ∙ ap offerOf e)) g fit

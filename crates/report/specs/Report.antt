@@ -3,13 +3,14 @@
 use Prim.Native.Nat.{ℕ, _-_}
 use mathlib.Core.List.{List, _++_}
 use mathlib.Core.Option.{Option}
-use lib.ListN.{getD}
+use lib.ListN.{length, getD}
 use Rattle.auction.specs.Settlement.{mills}
 use Rattle.values.specs.declared.Verdict.{Verdict}
 use Rattle.values.specs.declared.Verdict.the-variants.{Passed, Refused}
 use Rattle.settle.specs.Read.{quoted}
 use Rattle.layout.specs.Form.{offerCount}
-use Rattle.layout.specs.Read.{bookParameters, bookOffer}
+use Rattle.layout.specs.Read.{rowOffer, contentsOf}
+use Rattle.values.specs.Contents.{Contents, offerAt}
 use Rattle.book.specs.Faults.{firstFault}
 use Rattle.sale.specs.Auction.{total, price, rowCleared, rowCommitted, rowMakeWhole, dailyTotal, yearTotal}
 use Rattle.sale.specs.declared.Clearing.{Clearing}
@@ -18,7 +19,7 @@ use Rattle.report.specs.Lines.{clearedWord, dailyWord, yearWord, lineTex
 -- a row's line, with what it clears and commits in two lists
 abbrev pub soldLine : List ℕ → Option ℕ → List ℕ → List ℕ → ℕ → List ℕ
 soldLine b quote cleared committed row =
-    rowText (bookOffer b row .resource) (getD cleared row 0) (getD committed row 0)
+    rowText (rowOffer b 1 row .resource) (getD cleared row 0) (getD committed row 0)
     (mills quote (getD committed row 0 - getD cleared row 0))
 
 -- the lines of a clearing: X, the price, every row in book order, the daily and the year total
@@ -36,13 +37,12 @@ soldText b c cleared committed =
     linesText (c .total) (quoted (c .price)) (soldLine b (quoted (c .price)) cleared committed) (offerCount b)
     (c .daily) (c .year)
 
--- those of an accepted book
-unfoldable pub clearingText : List ℕ → List ℕ
-clearingText b =
-    let p = bookParameters b in
-    linesText (total b p) (price b p)
-    (λ row. rowText (bookOffer b row .resource) (rowCleared b p row) (rowCommitted b p row) (rowMakeWhole b p row))
-    (offerCount b) (dailyTotal b p) (yearTotal b p)
+-- those of what an accepted book says
+unfoldable pub clearingText : Contents → List ℕ
+clearingText c =
+    linesText (total c) (price c)
+    (λ row. rowText (offerAt (c .offers) row .resource) (rowCleared c row) (rowCommitted c row) (rowMakeWhole c row))
+    (length (c .offers)) (dailyTotal c) (yearTotal c)
 
 -- a refusal's one line, or the lines of the clearing
 abbrev pub reportBy : Verdict → List ℕ → List ℕ
@@ -50,4 +50,4 @@ reportBy Passed lines = lines
 reportBy (Refused number place) lines = refusalText number place
 
 unfoldable pub reportText : List ℕ → List ℕ
-reportText b = reportBy (firstFault b) (clearingText b)
+reportText b = reportBy (firstFault b) (clearingText (contentsOf b))

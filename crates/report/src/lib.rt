@@ -20,7 +20,7 @@ ghost use Rattle.io.specs.Counts.{Counts};
 ghost use Rattle.values.specs.declared.Verdict.the-variants.{Passed};
 ghost use Rattle.auction.specs.Settlement.{mills};
 ghost use Rattle.settle.specs.Read.{quoted};
-ghost use Rattle.layout.specs.Read.{Inside, bookOffer};
+ghost use Rattle.layout.specs.Read.{Inside, rowOffer};
 ghost use Rattle.book.specs.Faults.{firstFault};
 ghost use Rattle.report.specs.Lines.{rowText, rowsText, Fitted};
 ghost use Rattle.report.specs.Report.{soldLine, soldText, reportText};
@@ -37,7 +37,7 @@ fn put_offer(
 ) -> usize
     requires { ⌜ (1 + row / 15) * 512 + 512 ≤ length (now book) ⌝ }
     requires { ⌜ at + 54 ≤ length (now out) ⌝ }
-    ensures { λ r. ⌜ Fitted (now (out .entry)) at (rowText (bookOffer (now (book .entry)) row .resource) cleared committed (mills (quoted price) (committed - cleared))) (now (out .exit)) r × (r ≤ at + 54) ⌝ }
+    ensures { λ r. ⌜ Fitted (now (out .entry)) at (rowText (rowOffer (now (book .entry)) 1 row .resource) cleared committed (mills (quoted price) (committed - cleared))) (now (out .exit)) r × (r ≤ at + 54) ⌝ }
 {
     let o = offer_in(row_bytes(book, 1, row));
     put_row(
