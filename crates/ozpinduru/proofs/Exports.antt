@@ -3,7 +3,7 @@
 -- In order: the number of rows of an answer; parameters, refused or not; make-whole by the kind of an answer; values by their
 -- kind.
 -- Assumes nothing.
-use mathlib.Core.Path.{_≡_, refl, sym, ap, ap₂, subst, _∙_}
+use mathlib.Core.Path.{_≡_, refl, sym, ap, ap₂, _∙_}
 use mathlib.Core.List.{List}
 use mathlib.Core.Option.{none, some}
 use Prim.Native.Nat.{ℕ, _-_, _≤_, _<_}
@@ -17,24 +17,23 @@ use Rattle.values.specs.declared.head.Parameters.{Parameters}
 use Rattle.values.proofs.Firsts.{andThen-left, andThen-right}
 use Rattle.limits.specs.Parameters.{missingFault}
 use Rattle.limits.specs.Given.{parametersFault}
+use Rattle.limits.specs.Ranges.{Ranged}
 use Rattle.limits.proofs.Passing.{parameters-ranged}
-use Rattle.curve.specs.Points.{InRange}
-use Rattle.curve.specs.Shape.{curve2026}
 use Rattle.curve.specs.Price.{curvePrice}
 use Rattle.curve.specs.declared.Curve.{Curve}
 use Rattle.curve.specs.declared.CurvePrice.{CurvePrice}
-use Rattle.curve.specs.declared.Terms.{Terms}
 use Rattle.layout.specs.Form.{offerCount}
+use Rattle.layout.specs.Read.{contentsOf}
 use Rattle.layout.proofs.Passing.{form-passed-length}
+use Rattle.layout.proofs.Contained.{contents-count}
 use Rattle.book.specs.Faults.{firstFault}
 use Rattle.book.proofs.Accepted.{accepted-form}
-use Rattle.sale.specs.Auction.{termsOf}
+use Rattle.region.specs.Region.{regionCurve}
 use Rattle.sale.specs.declared.Clearing.{Clearing}
 use Rattle.call.specs.Answer.{answerBy, answerOf, callFault}
 use Rattle.call.specs.declared.Answer.{Answer}
 use Rattle.call.specs.declared.Answer.the-variants.{Cleared as Answer·Cleared}
 use Rattle.call.proofs.Calls.{passed-callable}
-use Rattle.call.proofs.Clearables.{terms-in-range}
 use Rattle.ozpinduru.specs.Export.{exported, answerTo, rowsStated, exportedMakeWhole, noAmount, noValue}
 use Rattle.ozpinduru.specs.Given.{valueIn}
 use Rattle.ozpinduru.specs.Plotted.{pointsOf, pointsRefused, exportedCurve, plottedPrice, priceRefused, exportedPrice}
@@ -45,7 +44,7 @@ use Rattle.ozpinduru.specs.declared.structs.OzpValue.{OzpValue}
 -- a book of one block at least states its number of offers there
 pub rows-stated : (b : List ℕ) → 512 ≤ length b → offerCount b ≡ rowsStated b
 unfolding rowsStated
-rows-stated b h = rw (le-ltb (length b) 512 h)
+rows-stated b h = rw (le-ltb (length b) 512 h) (contents-count b)
 
 -- and a shorter one states nothing
 pub rows-unstated : (b : List ℕ) → length b < 512 → noValue ≡ rowsStated b
@@ -58,8 +57,8 @@ cleared-told rows e = ap (λ (x : Answer). exported x rows) (sym e)
 
 -- where no test refuses, the number of offers is shown, and on a refusal none is
 shown-by : (b : List ℕ) (v : Verdict) (c : Clearing) → (v ≡ Passed → 512 ≤ length b)
-    → exported (answerBy v c) (rowsStated b) ≡ exported (answerBy v c) (offerCount b)
-shown-by b Passed c long = ap (exported (Answer·Cleared c)) (sym (rows-stated b (long refl)))
+    → exported (answerBy v c) (rowsStated b) ≡ exported (answerBy v c) (length (contentsOf b .offers))
+shown-by b Passed c long = ap (exported (Answer·Cleared c)) (sym (rows-stated b (long refl)) ∙ contents-count b)
 shown-by b (Refused number place) c long = refl
 
 accepted-long : (b : List ℕ) → firstFault b ≡ Passed → 512 ≤ length b
@@ -67,32 +66,31 @@ accepted-long b e = form-passed-length b (accepted-form b e)
 
 -- of a call with result buffers, and of one with none
 pub shown-call : (b : List ℕ) (cleared committed rows : ℕ) (a : Answer) → a ≡ answerTo b cleared committed → rows ≡ rowsStated b
-    → exported a rows ≡ exported (answerTo b cleared committed) (offerCount b)
+    → exported a rows ≡ exported (answerTo b cleared committed) (length (contentsOf b .offers))
 shown-call b cleared committed rows a e f =
     ap₂ exported e f
     ∙ shown-by b (callFault b cleared committed) _
     (λ passed. accepted-long b (passed-callable b cleared committed passed .accepted))
 
 pub shown-quote : (b : List ℕ) (rows : ℕ) (a : Answer) → a ≡ answerOf b → rows ≡ rowsStated b
-    → exported a rows ≡ exported (answerOf b) (offerCount b)
+    → exported a rows ≡ exported (answerOf b) (length (contentsOf b .offers))
 shown-quote b rows a e f = ap₂ exported e f ∙ shown-by b (firstFault b) _ (accepted-long b)
 
 -- ---- parameters
 
--- parameters that pass have terms in range
-passed-in-range : (p : Parameters) → parametersFault p ≡ Passed → InRange (termsOf p)
+-- parameters that pass are given and in range
+passed-ranged : (p : Parameters) → parametersFault p ≡ Passed → Ranged p
 unfolding parametersFault
-passed-in-range p e =
-    terms-in-range p (parameters-ranged p (andThen-left (missingFault p) _ e) (andThen-right (missingFault p) _ e))
+passed-ranged p e = parameters-ranged p (andThen-left (missingFault p) _ e) (andThen-right (missingFault p) _ e)
 
 -- what the code made and tested: p are the parameters that were given, and v is their fault
 module _ (given p : Parameters) (same : p ≡ given) (v : Verdict) (found : v ≡ parametersFault p) where
   fault : {w : Verdict} → v ≡ w → parametersFault given ≡ w
   fault told = sym (found ∙ ap parametersFault same) ∙ told
 
-  -- where they pass, the terms that the code read are in range
-  pub given-in-range : v ≡ Passed → (t : Terms) → t ≡ termsOf p → InRange t
-  given-in-range told t e = subst InRange (sym (e ∙ ap termsOf same)) (passed-in-range given (fault told))
+  -- where they pass, they are given and in range
+  pub given-ranged : v ≡ Passed → Ranged p
+  given-ranged told = passed-ranged p (sym found ∙ told)
 
   -- where they are refused, there are no points and no price
   pub curve-refused : (number place : ℕ) → v ≡ Refused number place → pointsRefused number place ≡ exportedCurve given
@@ -103,10 +101,10 @@ module _ (given p : Parameters) (same : p ≡ given) (v : Verdict) (found : v �
   unfolding exportedPrice
   price-refused k number place told = rw (fault told)
 
-  -- the curve that the code made of the terms that it read
-  module _ (passed : v ≡ Passed) (t : Terms) (read : t ≡ termsOf p) (c : Curve) (made : c ≡ curve2026 t) where
-    curve-given : c ≡ curve2026 (termsOf given)
-    curve-given = made ∙ ap curve2026 (read ∙ ap termsOf same)
+  -- the curve that the code made of them
+  module _ (passed : v ≡ Passed) (c : Curve) (made : c ≡ regionCurve p) where
+    curve-given : c ≡ regionCurve given
+    curve-given = made ∙ ap regionCurve same
 
     -- its points, and its price at a quantity
     pub curve-made : pointsOf c ≡ exportedCurve given

@@ -14,8 +14,7 @@ use lib.Dec.{eqb, ltb}
 use Rattle.auction.specs.Settlement.{mills}
 use Rattle.market.specs.declared.price.ClearingPrice.{ClearingPrice}
 use Rattle.market.specs.declared.price.ClearingPrice.the-variants.{Price, NoPrice}
-use Rattle.layout.specs.Form.{offerCount}
-use Rattle.layout.specs.Read.{bookParameters}
+use Rattle.layout.specs.Read.{contentsOf}
 use Rattle.sale.specs.Payment.{clearingOf}
 use Rattle.call.specs.Answer.{Outcome, answerBy, callFault}
 use Rattle.call.specs.declared.Answer.{Answer}
@@ -70,15 +69,15 @@ exported (Answer·Refused number place) rows =
 
 -- what the code reads for the number of rows: no value, where there is no block to state it in
 unfoldable pub rowsStated : List ℕ → ℕ
-rowsStated b = cond (ltb (length b) 512) noValue (offerCount b)
+rowsStated b = cond (ltb (length b) 512) noValue (length (contentsOf b .offers))
 
 -- the answer of a call with result buffers of these lengths
 abbrev pub answerTo : List ℕ → ℕ → ℕ → Answer
-answerTo b cleared committed = answerBy (callFault b cleared committed) (clearingOf b (bookParameters b))
+answerTo b cleared committed = answerBy (callFault b cleared committed) (clearingOf (contentsOf b))
 
 -- what the exported call returns and leaves in both buffers
 pub record Returned (b cleared committed : List ℕ) (r : OzpAnswer) (cleared′ committed′ : List ℕ) : Type 0 where
-  pub answer : r ≡ exported (answerTo b (length cleared) (length committed)) (offerCount b)
+  pub answer : r ≡ exported (answerTo b (length cleared) (length committed)) (length (contentsOf b .offers))
   pub outcome : Outcome b cleared committed (answerTo b (length cleared) (length committed)) cleared′ committed′
 
 -- ---- a row's make-whole

@@ -3,21 +3,22 @@
 -- In order: a value and an offer; what a book says besides its rows, or why it is refused; how many rows are filled in; what a
 -- reading returns and leaves in the array of rows.
 -- Assumes nothing.
-use Prim.Native.Nat.{ℕ, zero, suc}
+use Prim.Native.Nat.{ℕ, zero, suc, _<_}
 use mathlib.Core.Path.{_≡_}
 use mathlib.Core.Bool.{cond}
 use mathlib.Core.List.{List}
 use lib.Dec.{eqb, leb}
 use lib.ListN.{length, set}
 use Rattle.values.specs.Refusals.{unless, andThen, shortBuffer}
+use Rattle.values.specs.Contents.{offerAt}
 use Rattle.values.specs.declared.Value.{Value}
 use Rattle.values.specs.declared.Value.the-variants.{Given, Missing}
 use Rattle.values.specs.declared.Verdict.{Verdict}
 use Rattle.values.specs.declared.Verdict.the-variants.{Passed, Refused}
 use Rattle.values.specs.declared.head.Parameters.{Parameters}
 use Rattle.values.specs.declared.place.Offer.{Offer}
-use Rattle.layout.specs.Form.{formFault, offerCount}
-use Rattle.layout.specs.Read.{bookParameters, bookOffer}
+use Rattle.layout.specs.Form.{formFault}
+use Rattle.layout.specs.Read.{contentsOf}
 use Rattle.ozpinduru.specs.Export.{noValue}
 use Rattle.ozpinduru.specs.declared.structs.OzpContents.{OzpContents}
 use Rattle.ozpinduru.specs.declared.structs.OzpRow.{OzpRow}
@@ -76,7 +77,7 @@ contentsRefused number place =
 
 -- 1 to 3, and then 9 where the rows do not all have an entry
 unfoldable pub readFault : List ℕ → ℕ → Verdict
-readFault b entries = andThen (formFault b) (unless (leb (offerCount b) entries) (shortBuffer 1))
+readFault b entries = andThen (formFault b) (unless (leb (length (contentsOf b .offers)) entries) (shortBuffer 1))
 
 abbrev pub contentsBy : Verdict → OzpContents → OzpContents
 contentsBy Passed contents = contents
@@ -84,7 +85,8 @@ contentsBy (Refused number place) contents = contentsRefused number place
 
 -- what a book says, its rows going into so many entries, or the refusal
 unfoldable pub exportedContents : List ℕ → ℕ → OzpContents
-exportedContents b entries = contentsBy (readFault b entries) (contentsOut (bookParameters b) (offerCount b))
+exportedContents b entries =
+    contentsBy (readFault b entries) (contentsOut (contentsOf b .parameters) (length (contentsOf b .offers)))
 
 -- ---- its rows
 
@@ -97,9 +99,14 @@ unfoldable pub filledRows : (ℕ → OzpRow) → ℕ → List OzpRow → List Oz
 filledRows f zero xs = xs
 filledRows f (suc n) xs = set (filledRows f n xs) n (f n)
 
+-- a row that a book has, where 1 to 3 do not refuse it
+pub record HasRow (b : List ℕ) (row : ℕ) : Type 0 where
+  pub form : formFault b ≡ Passed
+  pub there : row < length (contentsOf b .offers)
+
 -- the values of a row of a book
 unfoldable pub rowOut : List ℕ → ℕ → OzpRow
-rowOut b row = offerOut (bookOffer b row)
+rowOut b row = offerOut (offerAt (contentsOf b .offers) row)
 
 -- What a reading returns and leaves in the array: each row of the book has its values in its own entry.
 pub record Read (b : List ℕ) (rows : List OzpRow) (r : OzpContents) (rows′ : List OzpRow) : Type 0 where

@@ -7,12 +7,11 @@ use Rattle.values.specs.declared.Verdict.{Verdict}
 use Rattle.values.specs.declared.Verdict.the-variants.{Passed, Refused}
 use Rattle.values.specs.declared.head.Parameters.{Parameters}
 use Rattle.limits.specs.Given.{parametersFault}
-use Rattle.curve.specs.Shape.{curve2026}
 use Rattle.curve.specs.Price.{curvePrice}
 use Rattle.curve.specs.declared.Curve.{Curve}
 use Rattle.curve.specs.declared.CurvePrice.{CurvePrice}
 use Rattle.curve.specs.declared.CurvePrice.the-variants.{Price, NoPrice}
-use Rattle.sale.specs.Auction.{termsOf}
+use Rattle.region.specs.Region.{regionCurve}
 use Rattle.ozpinduru.specs.Export.{noValue}
 use Rattle.ozpinduru.specs.declared.structs.OzpCurve.{OzpCurve}
 use Rattle.ozpinduru.specs.declared.structs.OzpPrice.{OzpPrice}
@@ -52,7 +51,7 @@ pointsBy (Refused number place) points = pointsRefused number place
 
 -- the points of the curve that parameters make, or the refusal of the parameters
 unfoldable pub exportedCurve : Parameters → OzpCurve
-exportedCurve p = pointsBy (parametersFault p) (pointsOf (curve2026 (termsOf p)))
+exportedCurve p = pointsBy (parametersFault p) (pointsOf (regionCurve p))
 
 -- ---- its price at a quantity
 
@@ -69,4 +68,4 @@ priceBy (Refused number place) price = priceRefused number place
 
 -- the price at k on the curve that parameters make, that there is none past Q3, or the refusal of the parameters
 unfoldable pub exportedPrice : Parameters → ℕ → OzpPrice
-exportedPrice p k = priceBy (parametersFault p) (plottedPrice (curvePrice (curve2026 (termsOf p)) k))
+exportedPrice p k = priceBy (parametersFault p) (plottedPrice (curvePrice (regionCurve p) k))

@@ -9,17 +9,17 @@ use crate::structs::OzpParameters;
 use crate::structs::OzpPrice;
 use call::clear;
 use call::quote;
-use curve::points_2026;
 use curve::price_at;
 use limits::given::parameters_verdict;
 use market::price::ClearingPrice;
-use sale::terms_of;
+use region::region_curve;
 use settle::make_whole;
 use units::CentsPerMwDay;
 use values::Verdict;
 ghost use mathlib.Core.Path.{_≡_};
+ghost use lib.ListN.{length};
+ghost use Rattle.layout.specs.Read.{contentsOf};
 ghost use Rattle.call.specs.Answer.{answerOf};
-ghost use Rattle.layout.specs.Form.{offerCount};
 ghost use Rattle.ozpinduru.specs.Export.{Returned, exported, exportedMakeWhole, version};
 ghost use Rattle.ozpinduru.specs.Plotted.{exportedCurve, exportedPrice};
 ghost use Rattle.ozpinduru.specs.Given.{parametersIn};
@@ -36,7 +36,7 @@ pub extern "C" fn ozp_clear(book: &[u8], cleared: &mut [u32], committed: &mut [u
 // What a book clears, with no result buffers.
 #[no_mangle]
 pub extern "C" fn ozp_quote(book: &[u8]) -> OzpAnswer
-    ensures { λ r. ⌜ r ≡ exported (answerOf (now (book .entry))) (offerCount (now (book .entry))) ⌝ }
+    ensures { λ r. ⌜ r ≡ exported (answerOf (now (book .entry))) (length (contentsOf (now (book .entry)) .offers)) ⌝ }
 {
     plain::answer(quote(book), plain::rows_stated(book))
 }
@@ -50,7 +50,7 @@ pub extern "C" fn ozp_curve(parameters: OzpParameters) -> OzpCurve
     if let Verdict::Refused(number, place) = parameters_verdict(p) {
         return plotted::curve_refused(number, place);
     }
-    plotted::curve(points_2026(terms_of(p)))
+    plotted::curve(region_curve(p))
 }
 
 // The price at a quantity of the curve that parameters make.
@@ -62,7 +62,7 @@ pub extern "C" fn ozp_price_at(parameters: OzpParameters, k: u32) -> OzpPrice
     if let Verdict::Refused(number, place) = parameters_verdict(p) {
         return plotted::price_refused(number, place);
     }
-    plotted::price(price_at(points_2026(terms_of(p)), k))
+    plotted::price(price_at(region_curve(p), k))
 }
 
 // A row's make-whole in mills a day, from the kind and the price of an answer and the row's entries of the two buffers.

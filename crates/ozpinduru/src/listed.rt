@@ -15,9 +15,7 @@ use values::head::parameters_in;
 use values::place::Offer;
 use values::place::offer_in;
 ghost use mathlib.Core.Path.{_≡_};
-ghost use Prim.Native.Nat.{_+_, _*_, _/_, _≤_};
-ghost use lib.ListN.{length};
-ghost use Rattle.ozpinduru.specs.Listed.{valueOut, offerOut, contentsOut, contentsRefused, readFault, exportedContents, rowsFilled, rowOut};
+ghost use Rattle.ozpinduru.specs.Listed.{valueOut, offerOut, contentsOut, contentsRefused, readFault, exportedContents, rowsFilled, HasRow, rowOut};
 
 // A value as it goes out: one that is missing has no number.
 fn value_out(v: Value) -> OzpValue
@@ -48,12 +46,12 @@ fn offer_out(o: Offer) -> OzpRow
     }
 }
 
-// The values of a row, in a book that has the row's block.
+// The values of a row that a book has.
 pub fn row_at(book: &[u8], row: usize) -> OzpRow
-    requires { ⌜ (1 + row / 15) * 512 + 512 ≤ length (now book) ⌝ }
+    requires { ⌜ HasRow (now book) row ⌝ }
     ensures { λ r. ⌜ r ≡ rowOut (now (book .entry)) row ⌝ }
 {
-    offer_out(offer_in(row_bytes(book, row)))
+    offer_out(offer_in(row_bytes(book, 1, row)))
 }
 
 // The parameters as they go out, with the number of rows.

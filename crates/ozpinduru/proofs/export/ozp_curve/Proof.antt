@@ -1,7 +1,7 @@
 -- `ozp_curve` shows the points of the curve, or the refusal of its parameters.
 -- Assumes nothing.
 use mathlib.Core.Path.{_∙_}
-use Rattle.ozpinduru.proofs.Exports.{given-in-range, curve-refused, curve-made}
+use Rattle.ozpinduru.proofs.Exports.{given-ranged, curve-refused, curve-made}
 use borrow.Author.Needs.{needs}
 use Rattle.ozpinduru.proofs.export.ozp_curve.Statement.{statement}
 use Rattle.ozpinduru.proofs.export.ozp_curve.Tie as tie
@@ -27,25 +27,22 @@ returns c =
 enum-told : tie.Need-enum-told
 enum-told c = search needs
 
-terms-of-requires : tie.Need-terms-of-requires
-terms-of-requires c κs = search needs
-
-points-2026-requires : tie.Need-points-2026-requires
-points-2026-requires c κs =
-    let tested = c .before .before .before in
-    given-in-range _ _ (tested .before .parameters-in .ensures) _ (tested .parameters-verdict .ensures)
-    (c .before .enum-told .given .1) _ (c .terms-of .ensures)
+region-curve-requires : tie.Need-region-curve-requires
+region-curve-requires c κs =
+    let tested = c .before .before in
+    given-ranged _ _ (tested .before .parameters-in .ensures) _ (tested .parameters-verdict .ensures)
+    (c .enum-told .given .1)
 
 curve-requires : tie.Need-curve-requires
 curve-requires c κs = search needs
 
 returns-2 : tie.Need-returns-2
 returns-2 c =
-    let read = c .before .before in
-    let tested = read .before .before .before in
+    let told = c .before .before in
+    let tested = told .before .before in
     c .curve .ensures
-    ∙ curve-made _ _ (tested .before .parameters-in .ensures) _ (tested .parameters-verdict .ensures) (read .before .enum-told .given .1) _
-    (read .terms-of .ensures) _ (c .before .points-2026 .ensures .0)
+    ∙ curve-made _ _ (tested .before .parameters-in .ensures) _ (tested .parameters-verdict .ensures) (told .enum-told .given .1) _
+    (c .before .region-curve .ensures .0)
 
 pub ozp-curve-spec : {M : Type 1} → statement M
 ozp-curve-spec =
@@ -57,7 +54,6 @@ ozp-curve-spec =
     curve-refused-requires
     returns
     enum-told
-    terms-of-requires
-    points-2026-requires
+    region-curve-requires
     curve-requires
     returns-2)

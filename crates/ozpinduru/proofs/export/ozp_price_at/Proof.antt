@@ -1,7 +1,7 @@
 -- `ozp_price_at` shows the price of the curve at a quantity, or the refusal of its parameters.
 -- Assumes nothing.
 use mathlib.Core.Path.{_∙_}
-use Rattle.ozpinduru.proofs.Exports.{given-in-range, price-refused, price-made}
+use Rattle.ozpinduru.proofs.Exports.{given-ranged, price-refused, price-made}
 use borrow.Author.Needs.{needs}
 use Rattle.ozpinduru.proofs.export.ozp_price_at.Statement.{statement}
 use Rattle.ozpinduru.proofs.export.ozp_price_at.Tie as tie
@@ -27,14 +27,11 @@ returns c =
 enum-told : tie.Need-enum-told
 enum-told c = search needs
 
-terms-of-requires : tie.Need-terms-of-requires
-terms-of-requires c κs = search needs
-
-points-2026-requires : tie.Need-points-2026-requires
-points-2026-requires c κs =
-    let tested = c .before .before .before in
-    given-in-range _ _ (tested .before .parameters-in .ensures) _ (tested .parameters-verdict .ensures)
-    (c .before .enum-told .given .1) _ (c .terms-of .ensures)
+region-curve-requires : tie.Need-region-curve-requires
+region-curve-requires c κs =
+    let tested = c .before .before in
+    given-ranged _ _ (tested .before .parameters-in .ensures) _ (tested .parameters-verdict .ensures)
+    (c .enum-told .given .1)
 
 price-at-requires : tie.Need-price-at-requires
 price-at-requires c κs = search needs
@@ -44,11 +41,11 @@ price-requires c κs = search needs
 
 returns-2 : tie.Need-returns-2
 returns-2 c =
-    let read = c .before .before .before in
-    let tested = read .before .before .before in
+    let told = c .before .before .before in
+    let tested = told .before .before in
     c .price .ensures
-    ∙ price-made _ _ (tested .before .parameters-in .ensures) _ (tested .parameters-verdict .ensures) (read .before .enum-told .given .1) _
-    (read .terms-of .ensures) _ (c .before .before .points-2026 .ensures .0) _ _ (c .before .price-at .ensures)
+    ∙ price-made _ _ (tested .before .parameters-in .ensures) _ (tested .parameters-verdict .ensures) (told .enum-told .given .1) _
+    (c .before .before .region-curve .ensures .0) _ _ (c .before .price-at .ensures)
 
 pub ozp-price-at-spec : {M : Type 1} → statement M
 ozp-price-at-spec =
@@ -60,8 +57,7 @@ ozp-price-at-spec =
     price-refused-requires
     returns
     enum-told
-    terms-of-requires
-    points-2026-requires
+    region-curve-requires
     price-at-requires
     price-requires
     returns-2)

@@ -4,7 +4,8 @@ use mathlib.Core.Path.{_≡_, sym, _∙_}
 use native.Mathlib.Omega.{arith}
 use Rattle.values.specs.declared.Verdict.the-variants.{Passed}
 use Rattle.layout.specs.Blocks.{blockOf}
-use Rattle.layout.specs.Read.{bookParameters}
+use Rattle.layout.specs.Read.{contentsOf}
+use Rattle.layout.proofs.Contained.{contents-parameters, contents-count}
 use Rattle.ozpinduru.specs.Listed.{readFault}
 use Rattle.ozpinduru.proofs.Listings.{passed-long, contents-refused, contents-passed}
 use borrow.Author.Needs.{needs}
@@ -47,9 +48,9 @@ parameters-in-requires c κs = search needs
 
 -- what was read of block 0 are the book's parameters
 read-own : (c : tie.After-parameters-in)
-    → c .parameters-in .result ≡ bookParameters (c .before .before .before .before .before .before .args .book .now)
-unfolding bookParameters blockOf
-read-own c = c .parameters-in .ensures
+    → c .parameters-in .result ≡ contentsOf (c .before .before .before .before .before .before .args .book .now) .parameters
+unfolding blockOf
+read-own c = c .parameters-in .ensures ∙ contents-parameters _
 
 offer-count-requires : tie.Need-offer-count-requires
 offer-count-requires c κs = passed-long _ _ (passed (c .before .before))
@@ -60,7 +61,7 @@ contents-out-requires c κs = search needs
 returns-2 : tie.Need-returns-2
 returns-2 c =
     c .contents-out .ensures
-    ∙ contents-passed _ _ (passed (c .before .before .before .before)) _ _ (read-own (c .before .before)) (c .before .offer-count .ensures .0)
+    ∙ contents-passed _ _ (passed (c .before .before .before .before)) _ _ (read-own (c .before .before)) (c .before .offer-count .ensures .0 ∙ contents-count _)
 
 pub contents-spec : {M : Type 1} → statement M
 contents-spec =

@@ -4,6 +4,7 @@ use mathlib.Core.Path.{_≡_, sym, _∙_}
 use Rattle.values.specs.declared.Verdict.the-variants.{Passed}
 use Rattle.layout.specs.Form.{formFault}
 use Rattle.layout.proofs.Passing.{form-passed-length}
+use Rattle.layout.proofs.Contained.{contents-count}
 use native.Mathlib.Omega.{arith}
 use Rattle.ozpinduru.proofs.Listings.{read-formless, read-short, read-passed}
 use borrow.Author.Needs.{needs}
@@ -33,10 +34,10 @@ cast-if1 : tie.Need-cast-if1
 cast-if1 c = search needs
 
 returns-2 : tie.Need-returns-2
-returns-2 c = read-short _ _ (formed (c .before .before)) (omega (arith, c .if1 .taken, c .before .offer-count .ensures .0))
+returns-2 c = read-short _ _ (formed (c .before .before)) (omega (arith, c .if1 .taken, c .before .offer-count .ensures .0 ∙ contents-count _))
 
 returns-3 : tie.Need-returns-3
-returns-3 c = read-passed _ _ (formed (c .before .before)) (omega (arith, c .if1 .left, c .before .offer-count .ensures .0))
+returns-3 c = read-passed _ _ (formed (c .before .before)) (omega (arith, c .if1 .left, c .before .offer-count .ensures .0 ∙ contents-count _))
 
 pub read-fault-spec : {M : Type 1} → statement M
 read-fault-spec =

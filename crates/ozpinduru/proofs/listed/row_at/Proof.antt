@@ -1,14 +1,13 @@
 -- `row_at` shows the offer that a row's own bytes hold.
 -- Assumes nothing.
-use mathlib.Core.Path.{_∙_, ap}
-use Rattle.ozpinduru.specs.Listed.{offerOut}
-use Rattle.ozpinduru.proofs.Listings.{row-read}
+use mathlib.Core.Path.{_∙_}
+use Rattle.ozpinduru.proofs.Listings.{row-inside, row-read}
 use borrow.Author.Needs.{needs}
 use Rattle.ozpinduru.proofs.listed.row_at.Statement.{statement}
 use Rattle.ozpinduru.proofs.listed.row_at.Tie as tie
 
 row-bytes-requires : tie.Need-row-bytes-requires
-row-bytes-requires c κs = search needs
+row-bytes-requires c κs = row-inside _ _ (c .before .pre)
 
 offer-in-requires : tie.Need-offer-in-requires
 offer-in-requires c κs = search needs
@@ -18,7 +17,8 @@ offer-out-requires c κs = search needs
 
 returns : tie.Need-returns
 returns c =
-    c .offer-out .ensures ∙ ap offerOut (c .before .offer-in .ensures) ∙ row-read _ _ _ (c .before .before .row-bytes .ensures .0)
+    let read = c .before .before in
+    c .offer-out .ensures ∙ row-read _ _ (read .before .before .pre) _ _ (read .row-bytes .ensures .0) (c .before .offer-in .ensures)
 
 pub row-at-spec : {M : Type 1} → statement M
 row-at-spec = tie.close (tie.spec row-bytes-requires offer-in-requires offer-out-requires returns)

@@ -60,7 +60,7 @@ use Rattle.ozpinduru.specs.declared.structs.OzpContents.{OzpContents}
 use Rattle.ozpinduru.specs.declared.structs.OzpRow.{OzpRow}
 use Rattle.ozpinduru.specs.declared.structs.OzpValue.{OzpValue}
 use Rattle.ozpinduru.specs.Listed.{exportedContents, rowsFilled, filledRows, rowOut}
-use Rattle.ozpinduru.proofs.Listings.{entered-inside, entered-entry, filled-none, filled-next, length-filled}
+use Rattle.ozpinduru.proofs.Listings.{entered-row, entered-entry, filled-none, filled-next, length-filled}
 use Rattle.ozpinduru.proofs.structs.OzpRow as T
 use Rattle.ozpinduru.proofs.structs.OzpRow.Laws as T′
 use Rattle.ozpinduru.proofs.structs.OzpContents as U
@@ -241,7 +241,7 @@ module _ {M : Type 1} (𝓤 : URA M) (H : Heap 𝓤) (A : Atoms 𝓤) (W : Given
 
   goes-row : (i : ℕ) → i < N → ent 𝓤 (⋆ 𝓤 H A (‵ (flft κ₀ q₀) ∷ ‵ Shr ∷ [])) (RowAt 𝓤 H A mem run .pre (to-row i))
   goes-row i l =
-      qed W (‵ (flft κ₀ q₀) ∷ ‵ Shr ∷ []) ∵ says ! (entered-inside bs n i l) $ nothing ! $ move ! (1 ∷ 0 ∷ []) $ join ! $ frame ! $
+      qed W (‵ (flft κ₀ q₀) ∷ ‵ Shr ∷ []) ∵ says ! (entered-row bs n i l) $ nothing ! $ move ! (1 ∷ 0 ∷ []) $ join ! $ frame ! $
       nothing ! $ owned ! usize (Is usize) (uint-makes 𝓤 H A W w64) i _ (refl, i-fits) $ fjoin ! $ move ! (1 ∷ 0 ∷ []) $ fjoin ! $ done !
     where
       i-fits : i < 2 ^ 64
