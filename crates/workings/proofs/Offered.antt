@@ -43,7 +43,7 @@ module _ (v : Verdict) (c : Contents) where
 -- of a refused form no row can be read
 there-formed : (v : Verdict) (c : Contents) (row : ℕ) → row < length (offersBy v c) → v ≡ Passed
 there-formed Passed c row l = refl
-there-formed (Refused number place) c row l = omega l
+there-formed (Refused number place) c row l = absurd (omega (arith, l))
 
 -- ---- a row that can be read
 
@@ -70,7 +70,9 @@ module _ (b : List ℕ) (row : ℕ) (there : row < length (offersBy (formFault b
 
 module _ (offers : List Offer) (row : ℕ) where
   pub row-offered : (o : Offer) → row < length offers → o ≡ offerAt offers row → Offered o ≡ rowOf offers row
+  unfolding rowOf
   row-offered o l e = ap Offered e ∙ sym (cond-true _ _ _ (lt-ltb row (length offers) l))
 
-  pub row-unread : length offers ≤ row → Unread ≡ rowOf offers row
-  row-unread l = sym (cond-false _ _ _ (le-ltb row (length offers) l))
+  pub row-unread : {n : ℕ} → n ≡ length offers → n ≤ row → Unread ≡ rowOf offers row
+  unfolding rowOf
+  row-unread e l = sym (cond-false _ _ _ (le-ltb row (length offers) (omega arith)))

@@ -25,5 +25,5 @@ offersBy Passed c = c .offers
 offersBy (Refused number place) c = []
 
 -- the offer of a row, where it is there
-abbrev pub rowOf : List Offer → ℕ → RowOffer
+unfoldable pub rowOf : List Offer → ℕ → RowOffer
 rowOf offers row = cond (ltb row (length offers)) (Offered (offerAt offers row)) RowOffer·Unread

@@ -16,7 +16,7 @@ row-share-at-requires c κs = search needs
 
 returns : tie.Need-returns
 returns c =
-    works-made _ _ _ _ _ _ (c .before .before .region-curve .ensures .0) (c .before .stop-at .ensures) (c .row-share-at .ensures)
+    works-made _ _ _ _ _ _ (c .before .before .before .region-curve .ensures .0) (c .before .before .stop-at .ensures) (c .row-share-at .ensures)
 
 pub works-at-spec : {M : Type 1} → statement M
 works-at-spec = tie.close (tie.spec region-curve-requires stop-at-requires row-share-at-requires returns)
