@@ -90,11 +90,12 @@ works-listed : (c : Curve) (prices quantities stamps resources : List ℕ) (n ro
 unfolding worksAt stopAt levelAt tenthAt nextAt clearedTotal stopLevel supply supplyBelow levelSum levelAmount rowShareAt shareAt shareDown remainder weighted
 works-listed c prices quantities stamps resources n row = refl
 
--- over the columns of contents they are those of the contents
-pub works-stand : (c : Contents) (p : Parameters) (n : ℕ) (v : Columns) (row : ℕ) → Stands c p n v
-    → worksAt (regionCurve p) (listed (v .prices) (v .quantities) n) row ≡ worksOf c row
+-- worked over the columns of contents they are those of the contents
+pub works-stand : (c : Contents) (p : Parameters) (n : ℕ) (v : Columns) (w : Works) (row : ℕ) → Stands c p n v
+    → w ≡ worksAt (regionCurve p) (listed (v .prices) (v .quantities) n) row → w ≡ worksOf c row
 unfolding worksOf
-works-stand c p n v row s =
-    works-listed (regionCurve p) (v .prices) (v .quantities) (v .stamps) (v .resources) n row
+works-stand c p n v w row s e =
+    e
+    ∙ works-listed (regionCurve p) (v .prices) (v .quantities) (v .stamps) (v .resources) n row
     ∙ ap (λ (o : Offers). worksAt (regionCurve p) o row) (columns-offers c p n v s)
     ∙ ap (λ (q : Parameters). worksAt (regionCurve q) (offersOf (c .offers)) row) (s .own)

@@ -92,7 +92,7 @@ works-at-requires c κs =
 returns-2 : tie.Need-returns-2
 returns-2 c =
     let told = c .before .before .before in
-    answer-worked _ _ _ (accepted told) (c .works-at .ensures ∙ works-stand _ _ _ _ _ (stands told))
+    answer-worked _ _ _ (accepted told) (works-stand _ _ _ (columns told) _ _ (stands told) (c .works-at .ensures))
 
 pub works-opened-spec : {M : Type 1} → statement M
 works-opened-spec =
