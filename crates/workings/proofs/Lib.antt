@@ -2,3 +2,4 @@ pub mod Offered
 pub mod Stops
 pub mod Shared
 pub mod Worked
+pub mod Decided

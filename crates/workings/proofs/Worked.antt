@@ -1,27 +1,40 @@
--- The workings of an accepted book are those of its columns: they look at no stamp and no resource number.
+-- The workings of a book are those of its columns, which look at no stamp and no resource number.
+--
+-- In order: the answer by the book's first fault, which what comes before the rows decides, and then the rows; the workings put
+-- together; over the columns of contents they are those of the contents.
 -- Assumes nothing.
-use mathlib.Core.Path.{_≡_, refl, ap, ap₂, _∙_}
+use mathlib.Core.Path.{_≡_, refl, ap, sym, _∙_}
+use mathlib.Core.Bool.{true}
 use mathlib.Core.List.{List}
 use Prim.Native.Nat.{ℕ}
+use lib.ListN.{length}
 use Rattle.auction.specs.Offers.{Offers, supply, supplyBelow, levelSum}
 use Rattle.auction.specs.Clearing.{clearedTotal}
 use Rattle.auction.specs.Shares.{levelAmount, weighted, shareDown, remainder}
+use Rattle.values.specs.Contents.{Contents, offerAt}
 use Rattle.values.specs.declared.Verdict.{Verdict}
 use Rattle.values.specs.declared.Verdict.the-variants.{Passed, Refused}
 use Rattle.values.specs.declared.head.Parameters.{Parameters}
-use Rattle.curve.specs.Shape.{curve2026}
+use Rattle.values.proofs.Firsts.{andThen-next, andThen-refused}
+use Rattle.limits.specs.Offers.{rowsFault}
+use Rattle.layout.specs.Read.{rowOffers}
+use Rattle.layout.proofs.Contained.{length-rowOffers, contents-count}
 use Rattle.curve.specs.Price.{demandOf}
 use Rattle.curve.specs.declared.Curve.{Curve}
-use Rattle.market.specs.Rows.{listed, rowsOf}
+use Rattle.market.specs.Rows.{listed}
 use Rattle.market.specs.Stop.{stopLevel}
-use Rattle.columns.specs.Column.{highsOf, lowsOf}
-use Rattle.columns.specs.Columns.{Columns, empty, ColumnsRead}
-use Rattle.sale.specs.Auction.{termsOf, offersOf, total}
-use Rattle.sale.specs.Sale.{Clearable}
+use Rattle.columns.specs.Column.{rowsOf}
+use Rattle.columns.specs.Columns.{Columns}
+use Rattle.book.specs.Faults.{firstFault}
+use Rattle.book.specs.Opening.{beforeRows, Opened}
+use Rattle.book.proofs.Stages.{rows-own, first-before}
+use Rattle.region.specs.Region.{regionCurve}
+use Rattle.sale.specs.Auction.{offersOf}
+use Rattle.sale.specs.Sale.{Stands}
 use Rattle.sale.proofs.Sales.{columns-offers}
 use Rattle.workings.specs.Stop.{levelAt, tenthAt, nextAt, stopAt}
 use Rattle.workings.specs.Share.{shareAt, rowShareAt}
-use Rattle.workings.specs.Works.{worksOf, workedBy}
+use Rattle.workings.specs.Works.{worksAt, worksOf, workedBy}
 use Rattle.workings.specs.declared.works.Works.{Works}
 use Rattle.workings.specs.declared.works.Answer.the-variants.{Worked, Refused as Answer·Refused}
 use Rattle.workings.specs.declared.stop.Stop.{Stop}
@@ -35,42 +48,54 @@ answer-refused v w number place e = rw e
 pub answer-worked : (v : Verdict) (w own : Works) → v ≡ Passed → w ≡ own → Worked w ≡ workedBy v own
 answer-worked v w own e f = rw e (ap Worked f)
 
--- ---- columns
+-- where what comes before the rows is refused, the book is
+pub answer-before : (b : List ℕ) (w : Works) (number place : ℕ) → beforeRows b ≡ Refused number place
+    → Answer·Refused number place ≡ workedBy (firstFault b) w
+answer-before b w number place e =
+    answer-refused (firstFault b) w number place (first-before b ∙ andThen-refused (beforeRows b) _ number place e)
 
-module _ (prices quantities highs lows resources : List ℕ) (n : ℕ) where
-  stop-listed : (c : Curve) → stopAt c (listed prices quantities n) ≡ stopAt c (rowsOf prices quantities highs lows resources n)
-  unfolding stopAt levelAt tenthAt nextAt clearedTotal stopLevel supply supplyBelow levelSum levelAmount
-  stop-listed c = refl
+-- where it passed, the rows decide
+pub first-rows : (b : List ℕ) (p : Parameters) (n : ℕ) (found : Verdict) → Opened b p n
+    → found ≡ rowsFault true (offerAt (rowOffers b 1 n)) (length (rowOffers b 1 n)) → firstFault b ≡ found
+first-rows b p n found o e =
+    first-before b
+    ∙ andThen-next (beforeRows b) _ (o .passed)
+    ∙ sym (e
+    ∙ ap (rowsFault true (offerAt (rowOffers b 1 n))) (length-rowOffers b 1 n)
+    ∙ rows-own true b n (o .rows ∙ sym (contents-count b)))
 
-  share-listed : (x row : ℕ) → rowShareAt (listed prices quantities n) x row ≡ rowShareAt (rowsOf prices quantities highs lows resources n) x row
-  unfolding rowShareAt shareAt shareDown remainder weighted levelAmount levelSum supplyBelow
-  share-listed x row = refl
+-- ---- the workings
 
 -- the total that a stop states
 stop-total : (c : Curve) (o : Offers) → stopAt c o .level .total ≡ clearedTotal (demandOf c) o
 unfolding stopAt levelAt
 stop-total c o = refl
 
-module _ (b : List ℕ) (p : Parameters) (n : ℕ) (v : Columns) (ok : Clearable b p n) (read : ColumnsRead b n empty v) where
-  abbrev few : Offers
-  few = listed (v .prices) (v .quantities) n
+-- where the total stops, and the share of that total, are the workings
+pub works-made : (c own : Curve) (o : Offers) (stop : Stop) (share : RowShare) (row : ℕ) → c ≡ own → stop ≡ stopAt c o
+    → share ≡ rowShareAt o (stop .level .total) row → record { stop = stop; share = share } ≡ worksAt own o row
+unfolding worksAt
+works-made c own o stop share row e f g =
+    let stops : stop ≡ stopAt own o = f ∙ ap (λ (a : Curve). stopAt a o) e in
+    λ i.
+    record {
+      stop = stops i;
+      share =
+          (g ∙ ap (λ (x : ℕ). rowShareAt o x row) (ap (λ (s : Stop). s .level .total) stops ∙ stop-total own o)) i;
+    }
 
-  pub works-are : (c : Curve) (stop : Stop) (share : RowShare) (row : ℕ) → c ≡ curve2026 (termsOf p) → stop ≡ stopAt c few
-      → share ≡ rowShareAt few (stop .level .total) row
-      → record { stop = stop; share = share } ≡ worksOf b p row
-  unfolding worksOf total
-  works-are c stop share row e f g = λ i. record { stop = stops i; share = shares i }
-    where
-      same : (a : Curve) → stopAt a few ≡ stopAt a (offersOf b)
-      same a = stop-listed (v .prices) (v .quantities) (highsOf b n) (lowsOf b n) (v .resources) n a ∙ ap (stopAt a) (columns-offers b p n v ok read)
+-- they look at prices and quantities alone
+works-listed : (c : Curve) (prices quantities stamps resources : List ℕ) (n row : ℕ)
+    → worksAt c (listed prices quantities n) row ≡ worksAt c (rowsOf prices quantities stamps resources n) row
+unfolding worksAt stopAt levelAt tenthAt nextAt clearedTotal stopLevel supply supplyBelow levelSum levelAmount rowShareAt shareAt shareDown remainder weighted
+works-listed c prices quantities stamps resources n row = refl
 
-      stops : stop ≡ stopAt (curve2026 (termsOf p)) (offersOf b)
-      stops = f ∙ ap (λ (a : Curve). stopAt a few) e ∙ same (curve2026 (termsOf p))
-
-      x-is : stop .level .total ≡ total b p
-      x-is = ap (λ (s : Stop). s .level .total) stops ∙ stop-total (curve2026 (termsOf p)) (offersOf b)
-
-      shares : share ≡ rowShareAt (offersOf b) (total b p) row
-      shares =
-          g ∙ share-listed (v .prices) (v .quantities) (highsOf b n) (lowsOf b n) (v .resources) n (stop .level .total) row
-          ∙ ap₂ (λ (o : Offers) (x : ℕ). rowShareAt o x row) (columns-offers b p n v ok read) x-is
+-- worked over the columns of contents they are those of the contents
+pub works-stand : (c : Contents) (p : Parameters) (n : ℕ) (v : Columns) (w : Works) (row : ℕ) → Stands c p n v
+    → w ≡ worksAt (regionCurve p) (listed (v .prices) (v .quantities) n) row → w ≡ worksOf c row
+unfolding worksOf
+works-stand c p n v w row s e =
+    e
+    ∙ works-listed (regionCurve p) (v .prices) (v .quantities) (v .stamps) (v .resources) n row
+    ∙ ap (λ (o : Offers). worksAt (regionCurve p) o row) (columns-offers c p n v s)
+    ∙ ap (λ (q : Parameters). worksAt (regionCurve q) (offersOf (c .offers)) row) (s .own)

@@ -1,29 +1,29 @@
--- What can be read of a book whose form is right.
+-- What can be read of a book whose form is right, by the fault of its form.
 -- Assumes nothing.
 use Prim.Native.Nat.{ℕ}
 use mathlib.Core.Bool.{cond}
-use mathlib.Core.List.{List}
+use mathlib.Core.List.{List, []}
 use lib.ListN.{length}
 use lib.Dec.{ltb}
-use Rattle.values.specs.Place.{offerOf}
+use Rattle.values.specs.Contents.{Contents, offerAt}
 use Rattle.values.specs.declared.Verdict.{Verdict}
 use Rattle.values.specs.declared.Verdict.the-variants.{Passed, Refused}
-use Rattle.values.specs.declared.head.Parameters.{Parameters}
+use Rattle.values.specs.declared.place.Offer.{Offer}
 use Rattle.workings.specs.declared.read.Head.{Head}
 use Rattle.workings.specs.declared.read.Head.the-variants.{Stated, Unread}
 use Rattle.workings.specs.declared.read.RowOffer.{RowOffer}
 use Rattle.workings.specs.declared.read.RowOffer.the-variants.{Offered, Unread as RowOffer·Unread}
 
--- the parameters and the number of offers, where the form has no fault
-abbrev pub headBy : Verdict → Parameters → ℕ → Head
-headBy Passed p offers = Stated p offers
-headBy (Refused number place) p offers = Unread
+-- the parameters and the number of offers
+abbrev pub headBy : Verdict → Contents → Head
+headBy Passed c = Stated (c .parameters) (length (c .offers))
+headBy (Refused number place) c = Unread
 
--- the rows that can be read
-abbrev pub rowsBy : Verdict → ℕ → ℕ
-rowsBy Passed offers = offers
-rowsBy (Refused number place) offers = 0
+-- the offers that can be read: all, or none
+abbrev pub offersBy : Verdict → Contents → List Offer
+offersBy Passed c = c .offers
+offersBy (Refused number place) c = []
 
--- the offer that a row's own bytes hold; of a row that isn't there the reader hands back an empty part
-abbrev pub offerBy : List ℕ → RowOffer
-offerBy part = cond (ltb (length part) 32) RowOffer·Unread (Offered (offerOf part))
+-- the offer of a row, where it is there
+unfoldable pub rowOf : List Offer → ℕ → RowOffer
+rowOf offers row = cond (ltb row (length offers)) (Offered (offerAt offers row)) RowOffer·Unread

@@ -1,22 +1,28 @@
--- The workings of an accepted book, over its own offers and the curve that its parameters make.
+-- The workings of what an accepted book says, over its offers and the curve that its parameters select.
 -- Assumes nothing.
 use Prim.Native.Nat.{ℕ}
-use mathlib.Core.List.{List}
+use Rattle.auction.specs.Offers.{Offers}
+use Rattle.auction.specs.Clearing.{clearedTotal}
+use Rattle.values.specs.Contents.{Contents}
 use Rattle.values.specs.declared.Verdict.{Verdict}
 use Rattle.values.specs.declared.Verdict.the-variants.{Passed, Refused}
-use Rattle.values.specs.declared.head.Parameters.{Parameters}
-use Rattle.curve.specs.Shape.{curve2026}
-use Rattle.sale.specs.Auction.{termsOf, offersOf, total}
+use Rattle.curve.specs.Price.{demandOf}
+use Rattle.curve.specs.declared.Curve.{Curve}
+use Rattle.region.specs.Region.{regionCurve}
+use Rattle.sale.specs.Auction.{offersOf}
 use Rattle.workings.specs.Stop.{stopAt}
 use Rattle.workings.specs.Share.{rowShareAt}
 use Rattle.workings.specs.declared.works.Works.{Works}
 use Rattle.workings.specs.declared.works.Answer.{Answer}
 use Rattle.workings.specs.declared.works.Answer.the-variants.{Worked, Refused as Answer·Refused}
 
--- where X stops on the curve, and a row's share of X
-unfoldable pub worksOf : List ℕ → Parameters → ℕ → Works
-worksOf b p row =
-    record { stop = stopAt (curve2026 (termsOf p)) (offersOf b); share = rowShareAt (offersOf b) (total b p) row }
+-- where X stops on a curve, and a row's share of X
+unfoldable pub worksAt : Curve → Offers → ℕ → Works
+worksAt c o row = record { stop = stopAt c o; share = rowShareAt o (clearedTotal (demandOf c) o) row }
+
+-- the same of contents
+unfoldable pub worksOf : Contents → ℕ → Works
+worksOf c row = worksAt (regionCurve (c .parameters)) (offersOf (c .offers)) row
 
 -- the workings of a book that is accepted, and of any other its refusal
 abbrev pub workedBy : Verdict → Works → Answer

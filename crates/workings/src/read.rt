@@ -2,7 +2,7 @@
 use block::SIZE;
 use layout::form::form;
 use layout::reader::offer_count;
-use layout::reader::own_bytes;
+use layout::reader::row_bytes;
 use values::Verdict;
 use values::head::Parameters;
 use values::head::parameters_in;
@@ -10,9 +10,10 @@ use values::place::Offer;
 use values::place::offer_in;
 ghost use mathlib.Core.Path.{_≡_};
 ghost use Prim.Native.Nat.{_≤_};
-ghost use Rattle.layout.specs.Form.{formFault, offerCount, ownBytes};
-ghost use Rattle.layout.specs.Read.{bookParameters};
-ghost use Rattle.workings.specs.Read.{headBy, rowsBy, offerBy};
+ghost use lib.ListN.{length};
+ghost use Rattle.layout.specs.Form.{formFault};
+ghost use Rattle.layout.specs.Read.{contentsOf};
+ghost use Rattle.workings.specs.Read.{headBy, offersBy, rowOf};
 
 // What block 0 states: the parameters, and how many offers follow.
 pub enum Head {
@@ -30,7 +31,7 @@ pub enum RowOffer {
 
 // What block 0 states.
 pub fn head_of(book: &[u8]) -> Head
-    ensures { λ r. ⌜ r ≡ headBy (formFault (now (book .entry))) (bookParameters (now (book .entry))) (offerCount (now (book .entry))) ⌝ }
+    ensures { λ r. ⌜ r ≡ headBy (formFault (now (book .entry))) (contentsOf (now (book .entry))) ⌝ }
 {
     if let Verdict::Refused(_, _) = form(book) {
         return Head::Unread;
@@ -40,7 +41,7 @@ pub fn head_of(book: &[u8]) -> Head
 
 // How many rows can be read: all that a book states, and none of one refused by 1 to 3.
 pub fn rows_of(book: &[u8]) -> usize
-    ensures { λ r. ⌜ (r ≡ rowsBy (formFault (now (book .entry))) (offerCount (now (book .entry)))) × (r ≤ 600) ⌝ }
+    ensures { λ r. ⌜ (r ≡ length (offersBy (formFault (now (book .entry))) (contentsOf (now (book .entry))))) × (r ≤ 600) ⌝ }
 {
     if let Verdict::Refused(_, _) = form(book) {
         return 0;
@@ -50,11 +51,11 @@ pub fn rows_of(book: &[u8]) -> usize
 
 // The offer of a row, read from its own bytes.
 pub fn offer_of(book: &[u8], row: usize) -> RowOffer
-    ensures { λ r. ⌜ r ≡ offerBy (ownBytes (now (book .entry)) row) ⌝ }
+    ensures { λ r. ⌜ r ≡ rowOf (offersBy (formFault (now (book .entry))) (contentsOf (now (book .entry)))) row ⌝ }
 {
-    let part = own_bytes(book, row);
-    if part.len() < 32 {
-        return RowOffer::Unread;
+    if row < rows_of(book) {
+        RowOffer::Offered(offer_in(row_bytes(book, 1, row)))
+    } else {
+        RowOffer::Unread
     }
-    RowOffer::Offered(offer_in(part))
 }

@@ -4,10 +4,10 @@ use market::supply::supply_at;
 use numbers::excess;
 use numbers::lesser;
 ghost use mathlib.Core.Path.{_≡_};
-ghost use Prim.Native.Nat.{ℕ, _<_};
+ghost use Prim.Native.Nat.{_<_};
 ghost use lib.ListN.{getD};
 ghost use Rattle.market.specs.Rows.{RowLists, listed};
-ghost use Rattle.workings.specs.Share.{LevelAt, shareAt, rowShareAt};
+ghost use Rattle.workings.specs.Share.{Positive, LevelAt, shareAt, rowShareAt};
 
 // What a row's level receives and offers in all, its exact part of that rounded down, and what rounding down leaves: the
 // part is (quantity times amount) over sum, and the remainder is over sum too.
@@ -65,7 +65,7 @@ pub(crate) fn row_share_at(
     x: u32,
     row: usize,
 ) -> RowShare
-    requires { ⌜ RowLists (now prices) (now quantities) n × ((i : ℕ) → i < n → 0 < getD (now quantities) i 0) ⌝ }
+    requires { ⌜ RowLists (now prices) (now quantities) n × Positive (now quantities) n ⌝ }
     ensures { λ r. ⌜ r ≡ rowShareAt (listed (now (prices .entry)) (now (quantities .entry)) n) x row ⌝ }
 {
     if row < n {

@@ -3,19 +3,21 @@ use crate::share::RowShare;
 use crate::share::row_share_at;
 use crate::stop::Stop;
 use crate::stop::stop_at;
-use block::SIZE;
+use book::opened;
 use book::rows::read_rows;
-use book::verdict;
-use curve::points_2026;
-use layout::reader::offer_count;
-use sale::terms_of;
+use layout::form::lengths;
+use region::region_curve;
 use values::Verdict;
-use values::head::parameters_in;
+use values::head::Parameters;
 ghost use mathlib.Core.Path.{_≡_};
-ghost use Rattle.values.specs.declared.Verdict.the-variants.{Passed};
-ghost use Rattle.layout.specs.Read.{bookParameters};
+ghost use Rattle.limits.specs.Ranges.{Ranged};
+ghost use Rattle.region.specs.Region.{regionCurve};
+ghost use Rattle.market.specs.Rows.{RowLists, listed};
+ghost use Rattle.layout.specs.Read.{contentsOf};
 ghost use Rattle.book.specs.Faults.{firstFault};
-ghost use Rattle.workings.specs.Works.{worksOf, workedBy};
+ghost use Rattle.book.specs.Opening.{Opened};
+ghost use Rattle.workings.specs.Share.{Positive};
+ghost use Rattle.workings.specs.Works.{worksAt, worksOf, workedBy};
 
 // Where the total stops, and the share of one row.
 pub struct Works {
@@ -29,42 +31,58 @@ pub enum Answer {
     Refused(u32, u32),
 }
 
-// The workings of a row of an accepted book. Its rows pass again, into columns.
-fn works_accepted(book: &[u8], row: usize) -> Works
-    requires { ⌜ firstFault (now book) ≡ Passed ⌝ }
-    ensures { λ r. ⌜ r ≡ worksOf (now (book .entry)) (bookParameters (now (book .entry))) row ⌝ }
+// The workings of a row of n, on the curve that parameters select.
+fn works_at(p: Parameters, prices: &[u32], quantities: &[u32], n: usize, row: usize) -> Works
+    requires { ⌜ Ranged p × RowLists (now prices) (now quantities) n × Positive (now quantities) n ⌝ }
+    ensures { λ r. ⌜ r ≡ worksAt (regionCurve p) (listed (now (prices .entry)) (now (quantities .entry)) n) row ⌝ }
 {
-    let offers = offer_count(book);
-    let n = offers as usize;
-    let c = points_2026(terms_of(parameters_in(&book[0..SIZE])));
+    let stop = stop_at(region_curve(p), prices, quantities, n);
+    let level = stop.level;
+    Works {
+        stop,
+        share: row_share_at(prices, quantities, n, level.total, row),
+    }
+}
+
+// The workings of a row of a book whose parameters and number of rows have passed. Its rows are read once, into columns.
+fn works_opened(book: &[u8], p: Parameters, rows: u32, row: usize) -> Answer
+    requires { ⌜ Opened (now book) p rows ⌝ }
+    ensures { λ r. ⌜ r ≡ workedBy (firstFault (now (book .entry))) (worksOf (contentsOf (now (book .entry))) row) ⌝ }
+{
     let mut prices = [0u32; 600];
     let mut quantities = [0u32; 600];
     let mut leasts = [0u32; 600];
     let mut resources = [0u32; 600];
-    read_rows(
+    let mut stamps = [0u64; 600];
+    let found = read_rows(
         book,
-        offers,
+        1,
+        rows,
         true,
         &mut prices,
         &mut quantities,
         &mut leasts,
         &mut resources,
+        &mut stamps,
     );
-    let stop = stop_at(c, &prices, &quantities, n);
-    let level = stop.level;
-    Works {
-        stop,
-        share: row_share_at(&prices, &quantities, n, level.total, row),
+    if let Verdict::Refused(number, place) = found {
+        return Answer::Refused(number, place);
     }
+    Answer::Worked(works_at(p, &prices, &quantities, rows as usize, row))
 }
 
 // The workings of a row of a book, or the book's refusal. Where the row isn't there, where the total stops is worked all the
 // same.
 pub fn workings(book: &[u8], row: usize) -> Answer
-    ensures { λ r. ⌜ r ≡ workedBy (firstFault (now (book .entry))) (worksOf (now (book .entry)) (bookParameters (now (book .entry))) row) ⌝ }
+    ensures { λ r. ⌜ r ≡ workedBy (firstFault (now (book .entry))) (worksOf (contentsOf (now (book .entry))) row) ⌝ }
 {
-    if let Verdict::Refused(number, place) = verdict(book) {
+    if let Verdict::Refused(number, place) = lengths(book) {
         return Answer::Refused(number, place);
     }
-    Answer::Worked(works_accepted(book, row))
+    let head = opened(book);
+    let fault = head.fault;
+    if let Verdict::Refused(number, place) = fault {
+        return Answer::Refused(number, place);
+    }
+    works_opened(book, head.parameters, head.rows, row)
 }

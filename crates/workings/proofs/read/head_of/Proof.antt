@@ -5,8 +5,9 @@ use native.Mathlib.Omega.{arith}
 use Rattle.values.specs.declared.Verdict.the-variants.{Passed}
 use Rattle.layout.specs.Blocks.{blockOf}
 use Rattle.layout.specs.Form.{formFault}
-use Rattle.layout.specs.Read.{bookParameters}
+use Rattle.layout.specs.Read.{contentsOf}
 use Rattle.layout.proofs.Passing.{form-passed-length}
+use Rattle.layout.proofs.Contained.{contents-parameters, contents-count}
 use Rattle.workings.proofs.Offered.{head-unread, head-stated}
 use borrow.Author.Needs.{needs}
 use Rattle.workings.proofs.read.head_of.Statement.{statement}
@@ -19,7 +20,7 @@ enum-told : tie.Need-enum-told
 enum-told c = search needs
 
 returns : tie.Need-returns
-returns c = head-unread _ _ _ _ _ (sym (c .before .before .form .ensures) ∙ c .enum-told .given .1)
+returns c = head-unread _ _ _ _ (sym (c .before .before .form .ensures) ∙ c .enum-told .given .1)
 
 enum-told-2 : tie.Need-enum-told-2
 enum-told-2 c = search needs
@@ -43,14 +44,15 @@ parameters-in-requires c κs = search needs
 offer-count-requires : tie.Need-offer-count-requires
 offer-count-requires c κs = form-passed-length _ (formed (c .before .before))
 
--- what was read of block 0 are the book's parameters
+-- what was read of block 0 are the parameters that the book says
 read-own : (c : tie.After-parameters-in)
-    → c .parameters-in .result ≡ bookParameters (c .before .before .before .before .before .before .args .book .now)
-unfolding bookParameters blockOf
-read-own c = c .parameters-in .ensures
+    → c .parameters-in .result ≡ contentsOf (c .before .before .before .before .before .before .args .book .now) .parameters
+unfolding blockOf
+read-own c = c .parameters-in .ensures ∙ contents-parameters _
 
 returns-2 : tie.Need-returns-2
-returns-2 c = head-stated _ _ _ _ _ (formed (c .before .before .before)) (read-own (c .before)) (c .offer-count .ensures .0)
+returns-2 c =
+    head-stated _ _ _ _ (formed (c .before .before .before)) (read-own (c .before)) (c .offer-count .ensures .0 ∙ contents-count _)
 
 pub head-of-spec : {M : Type 1} → statement M
 head-of-spec =

@@ -6,6 +6,7 @@ use borrow.Author.Needs.{needs}
 use Rattle.values.specs.declared.Verdict.the-variants.{Passed}
 use Rattle.layout.specs.Form.{formFault}
 use Rattle.layout.proofs.Passing.{form-passed-length, form-passed-count}
+use Rattle.layout.proofs.Contained.{contents-count}
 use Rattle.workings.proofs.Offered.{rows-unread, rows-read}
 use Rattle.workings.proofs.read.rows_of.Statement.{statement}
 use Rattle.workings.proofs.read.rows_of.Tie as tie
@@ -35,7 +36,7 @@ cast-result c = search needs
 returns-2 : tie.Need-returns-2
 returns-2 c =
     let told = formed (c .before) in
-    (rows-read _ _ _ told (c .offer-count .ensures .0), omega (arith, c .offer-count .ensures .0, form-passed-count _ told))
+    (rows-read _ _ _ told (c .offer-count .ensures .0 ∙ contents-count _), omega (arith, c .offer-count .ensures .0, form-passed-count _ told))
 
 pub rows-of-spec : {M : Type 1} → statement M
 rows-of-spec =
