@@ -10,7 +10,7 @@ use lib.Dec.{leb}
 use lib.ListN.{length, set, length-set}
 use borrow.Author.Tests.{le-leb, lt-leb, leb-true, eq-eqb, ne-eqb}
 use Rattle.values.specs.Place.{offerOf}
-use Rattle.values.specs.Refusals.{unless, andThen, shortBuffer}
+use Rattle.values.specs.Refusals.{shortBuffer}
 use Rattle.values.specs.declared.Verdict.{Verdict}
 use Rattle.values.specs.declared.Verdict.the-variants.{Passed, Refused}
 use Rattle.values.specs.declared.head.Parameters.{Parameters}
