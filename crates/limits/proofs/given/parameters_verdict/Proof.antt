@@ -1,6 +1,6 @@
 -- `parameters_verdict` asks for each value in turn, and then for the ranges.
 -- Assumes nothing.
-use mathlib.Core.Path.{_≡_, refl, sym, ap, _∙_}
+use mathlib.Core.Path.{_≡_, refl}
 use borrow.Author.Needs.{needs}
 use Rattle.values.specs.Refusals.{andThen}
 use Rattle.values.specs.declared.Verdict.{Verdict}

@@ -1,7 +1,6 @@
 -- `ozp_words` puts the words of a number, each arm its own.
 -- Assumes nothing.
 use mathlib.Core.Path.{ap}
-use mathlib.Core.List.{List}
 use lib.ListN.{length}
 use borrow.Author.Needs.{needs}
 use Rattle.ozpinduru.specs.Words.{bytesOf, wordsOf}

@@ -1,6 +1,5 @@
 -- `put_text` puts a text that fits.
 -- Assumes nothing.
-use native.Mathlib.Omega.{arith}
 use borrow.Author.Needs.{needs}
 use Rattle.ozpinduru.proofs.Telling.{told-none, told-short, told-put}
 use Rattle.ozpinduru.proofs.texts.put_text.Statement.{statement}
