@@ -15,9 +15,9 @@ class Unread(Exception):
 
 
 def words(text):
-    """The words of a text in order; a dot that ends the names after λ stands for itself."""
+    """The words of a text in order, without what stands in quotes; a dot that ends the names after λ stands for itself."""
     found = []
-    for word in re.sub(rf"([{re.escape(OPEN + CLOSE)},;])", r" \1 ", text).split():
+    for word in re.sub(rf"([{re.escape(OPEN + CLOSE)},;])", r" \1 ", re.sub(r'"[^"]*"', "0", text)).split():
         if len(word) > 1 and word.endswith("."):
             found += [word[:-1], "."]
         else:

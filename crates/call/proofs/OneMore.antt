@@ -94,11 +94,14 @@ module _ (κs κs′ : Lfts 3) (book cleared₀ committed₀ cleared₁ committe
       ∙ sym (ap (λ (c : Clearing). c .total) there))
       (dearer .total)
 
-  -- And it never raises the price.
-  pub call-one-more : (p q : CentsPerMwDay) → k .price ≡ Price p → k′ .price ≡ Price q → q .0 ≤ p .0
+  -- Where there was a price there is one, and it is no higher.
+  pub call-one-more : (p : CentsPerMwDay) → k .price ≡ Price p → (q : CentsPerMwDay) × ((k′ .price ≡ Price q) × (q .0 ≤ p .0))
   unfolding clearingOf price
-  call-one-more p q e f =
+  call-one-more p e =
       let low = quoted-there (price (contentsOf b)) p (sym e ∙ ap (λ (c : Clearing). c .price) here) in
-      let high = quoted-there (price (contentsOf b′)) q (sym f ∙ ap (λ (c : Clearing). c .price) there) in
-      dearer .price (p .0) (q .0) low
-      (ap (λ (r : Parameters). clearingPrice (demandOf (regionCurve r)) (offersOf (contentsOf b′ .offers))) (m .parameters) ∙ high)
+      let found = dearer .priced (p .0) low in
+      let own : price (contentsOf b′) ≡ some (found .0) =
+      sym (ap (λ (r : Parameters). clearingPrice (demandOf (regionCurve r)) (offersOf (contentsOf b′ .offers))) (m .parameters)) ∙ found .1 in (
+        record { 0 = found .0 },
+        (ap (λ (c : Clearing). c .price) there ∙ ap asPrice own, dearer .price (p .0) (found .0) low (found .1)),
+      )
