@@ -19,7 +19,8 @@ use Rattle.limits.specs.Clearable.{Clearable}
 use Rattle.limits.proofs.Passing.{parameters-ranged}
 use Rattle.limits.proofs.PassingRows.{rows-sound, rows-priced, rows-distinct}
 use Rattle.layout.specs.Form.{formFault, offerCount}
-use Rattle.layout.specs.Read.{contentsOf, Inside}
+use Rattle.layout.specs.Read.{contentsOf}
+use Rattle.layout.specs.inner.Read.{Inside}
 use Rattle.layout.proofs.Passing.{form-passed-count}
 use Rattle.layout.proofs.Contained.{contents-count}
 use Rattle.book.specs.Faults.{contentsFault, firstFault, givenFault, soundFault}

@@ -11,9 +11,9 @@ use contract.Lifetimes.{Lfts}
 use denote.Ref.{RefT, now}
 use Rattle.values.specs.declared.Verdict.{Verdict}
 use Rattle.book.specs.Faults.{firstFault, soundFault}
-use Rattle.book.specs.Rows.{RowsRead}
+use Rattle.book.specs.inner.Rows.{RowsRead}
 use Rattle.book.specs.declared.Opening.{Opening}
-use Rattle.columns.specs.Columns.{Columns, columnsOf}
+use Rattle.columns.specs.inner.Columns.{Columns, columnsOf}
 use Rattle.values.specs.declared.place.Offer.{Offer}
 use Rattle.book.proofs.opened.Reads as opened
 use Rattle.book.proofs.rows.read_rows.Reads as read-rows
@@ -52,13 +52,13 @@ rows-alone : (needed : Bool) (offers : List Offer) (r s : Verdict) (before after
 rows-alone needed offers r s before after other e f = (
   e .found ∙ sym (f .found),
   λ i.
-  record {
-    prices = (e .read .price ∙ sym (f .read .price)) i;
-    quantities = (e .read .quantity ∙ sym (f .read .quantity)) i;
-    leasts = (e .read .least ∙ sym (f .read .least)) i;
-    resources = (e .read .resource ∙ sym (f .read .resource)) i;
-    stamps = (e .read .stamp ∙ sym (f .read .stamp)) i;
-  },
+      record {
+        prices = (e .read .price ∙ sym (f .read .price)) i;
+        quantities = (e .read .quantity ∙ sym (f .read .quantity)) i;
+        leasts = (e .read .least ∙ sym (f .read .least)) i;
+        resources = (e .read .resource ∙ sym (f .read .resource)) i;
+        stamps = (e .read .stamp ∙ sym (f .read .stamp)) i;
+      },
 )
 
 -- the first fault of rows and their columns, by the contract of `read_rows`, refused or not

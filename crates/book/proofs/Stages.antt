@@ -17,11 +17,12 @@ use Rattle.limits.specs.Parameters.{rangeFault}
 use Rattle.limits.specs.Given.{parametersFault}
 use Rattle.limits.specs.Offers.{rowsFault}
 use Rattle.layout.specs.Form.{lengthFault, checkFault, layoutFault, formFault, offerCount}
-use Rattle.layout.specs.Read.{rowOffers, contentsOf, Inside}
+use Rattle.layout.specs.Read.{rowOffers, contentsOf}
+use Rattle.layout.specs.inner.Read.{Inside}
 use Rattle.layout.proofs.Passing.{form-passed-count, form-passed-row}
 use Rattle.layout.proofs.Contained.{contents-count}
 use Rattle.book.specs.Faults.{contentsFault, firstFault, givenFault, soundFault}
-use Rattle.book.specs.Opening.{beforeRows}
+use Rattle.book.specs.inner.Opening.{beforeRows}
 
 andThen-assoc : (u v w : Verdict) → andThen u (andThen v w) ≡ andThen (andThen u v) w
 andThen-assoc Passed v w = refl

@@ -12,22 +12,23 @@ use lib.ListN.{length, getD}
 use lib.Dec.{ltb}
 use Rattle.laws.proofs.Filling.{length-filling}
 use Rattle.laws.proofs.FilledRows.{filled-row}
-use Rattle.values.specs.Values.{held, leastOf}
+use Rattle.values.specs.Values.{held}
+use Rattle.values.specs.inner.Values.{leastOf}
 use Rattle.values.specs.Refusals.{repeatedResource}
 use Rattle.values.specs.Contents.{offerAt}
 use Rattle.values.specs.declared.Verdict.{Verdict}
 use Rattle.values.specs.declared.Verdict.the-variants.{Passed, Refused}
 use Rattle.values.specs.declared.place.Offer.{Offer}
 use Rattle.values.proofs.Firsts.{first-zero, first-on, first-refused}
-use Rattle.limits.specs.Repeats.{firstRepeat}
+use Rattle.limits.specs.inner.Repeats.{firstRepeat}
 use Rattle.limits.specs.Offers.{offerFault, rowsFault}
-use Rattle.limits.specs.Rows.{valuesFault, rowsBefore, withRepeats}
+use Rattle.limits.specs.inner.Rows.{valuesFault, rowsBefore, withRepeats}
 use Rattle.limits.proofs.Rows.{rowsFault-passes}
 use Rattle.limits.proofs.Tested.{offerFault-row}
-use Rattle.columns.specs.Column.{rowResource}
-use Rattle.columns.specs.Columns.{Columns, ColumnsRead}
+use Rattle.columns.specs.inner.Column.{rowResource}
+use Rattle.columns.specs.inner.Columns.{Columns, ColumnsRead}
 use Rattle.columns.proofs.Turns.{stored, columns-none, columns-more, columns-all}
-use Rattle.book.specs.Rows.{rowsTested, ValuesRead, RowsRead}
+use Rattle.book.specs.inner.Rows.{rowsTested, ValuesRead, RowsRead}
 
 -- the rows before the refused one are among those tested
 before-tested : (fault : Verdict) (n : ℕ) → rowsBefore fault n ≤ rowsTested fault n

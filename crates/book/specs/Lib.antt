@@ -1,3 +1,2 @@
 pub mod Faults
-pub mod Opening
-pub mod Rows
+pub mod inner

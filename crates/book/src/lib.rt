@@ -16,7 +16,7 @@ ghost use mathlib.Core.Path.{_≡_};
 ghost use Rattle.values.specs.declared.Verdict.the-variants.{Passed};
 ghost use Rattle.layout.specs.Form.{lengthFault};
 ghost use Rattle.book.specs.Faults.{firstFault, soundFault};
-ghost use Rattle.book.specs.Opening.{OpensAs};
+ghost use Rattle.book.specs.inner.Opening.{OpensAs};
 
 // What a book says before its rows: the first fault of it, the parameters, and how many rows follow.
 pub struct Opening {

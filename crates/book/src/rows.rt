@@ -7,11 +7,12 @@ use values::least_of;
 use values::number_held;
 use values::place::offer_in;
 ghost use mathlib.Core.Path.{_≡_};
-ghost use Rattle.columns.specs.Columns.{columnsOf, Room};
+ghost use Rattle.columns.specs.inner.Columns.{columnsOf, Room};
 ghost use Rattle.limits.specs.Offers.{rowsFault};
 ghost use Rattle.values.specs.Contents.{offerAt};
-ghost use Rattle.layout.specs.Read.{rowOffers, Inside};
-ghost use Rattle.book.specs.Rows.{ValuesRead, RowsRead};
+ghost use Rattle.layout.specs.Read.{rowOffers};
+ghost use Rattle.layout.specs.inner.Read.{Inside};
+ghost use Rattle.book.specs.inner.Rows.{ValuesRead, RowsRead};
 
 // The first fault by 6 or 7 among n rows that stand from the block `first` on, with the columns of the rows up to it.
 fn values_fault(
@@ -68,7 +69,15 @@ pub fn read_rows(
         (columnsOf (now (prices .exit)) (now (quantities .exit)) (now (leasts .exit)) (now (resources .exit)) (now (stamps .exit))) ⌝ }
 {
     let found = values_fault(
-        book, first, n, needed, prices, quantities, leasts, resources, stamps,
+        book,
+        first,
+        n,
+        needed,
+        prices,
+        quantities,
+        leasts,
+        resources,
+        stamps,
     );
     with_repeats(found, resources, n)
 }

@@ -20,17 +20,18 @@ use Rattle.values.specs.declared.head.Parameters.{Parameters}
 use Rattle.values.proofs.Firsts.{andThen-next, andThen-refused, andThen-left, andThen-right, unless-true, unless-passed}
 use Rattle.limits.specs.Offers.{rowsFault}
 use Rattle.layout.specs.Form.{offerCount}
-use Rattle.layout.specs.Read.{rowOffers, contentsOf, Inside}
+use Rattle.layout.specs.Read.{rowOffers, contentsOf}
+use Rattle.layout.specs.inner.Read.{Inside}
 use Rattle.layout.proofs.Contained.{contents-offers, contents-count}
-use Rattle.columns.specs.Columns.{Columns, Blank, Listed}
+use Rattle.columns.specs.inner.Columns.{Columns, Blank, Listed}
 use Rattle.columns.proofs.Offers.{blank-listed}
 use Rattle.book.specs.Faults.{firstFault}
-use Rattle.book.specs.Opening.{beforeRows, Opened}
-use Rattle.book.specs.Rows.{RowsRead}
+use Rattle.book.specs.inner.Opening.{beforeRows, Opened}
+use Rattle.book.specs.inner.Rows.{RowsRead}
 use Rattle.book.proofs.Stages.{first-before, before-form, form-inside}
 use Rattle.book.proofs.Values.{rows-stored}
 use Rattle.book.proofs.Accepted.{accepted-clearable}
-use Rattle.sale.specs.Sale.{Stands, ClearedAs}
+use Rattle.sale.specs.inner.Sale.{Stands, ClearedAs}
 use Rattle.sale.specs.Payment.{clearingOf, clearedList, committedList}
 use Rattle.sale.specs.declared.Clearing.{Clearing}
 use Rattle.call.specs.Answer.{Outcome, answerOf, answerBy, bufferBy, bufferFault, callFault}

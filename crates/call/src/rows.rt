@@ -10,8 +10,8 @@ ghost use mathlib.Core.Path.{_≡_};
 ghost use Prim.Native.Nat.{_≤_};
 ghost use Rattle.values.specs.declared.Verdict.the-variants.{Passed};
 ghost use Rattle.layout.specs.Form.{lengthFault};
-ghost use Rattle.columns.specs.Columns.{columnsOf, Blank};
-ghost use Rattle.book.specs.Opening.{Opened};
+ghost use Rattle.columns.specs.inner.Columns.{columnsOf, Blank};
+ghost use Rattle.book.specs.inner.Opening.{Opened};
 ghost use Rattle.call.specs.Answer.{Outcome, bufferFault};
 
 // 9: the result buffer that is too short, the cleared one first.
@@ -47,13 +47,29 @@ fn clear_rows(
     let n = rows as usize;
     let short = buffer_fault(n, cleared.len(), committed.len());
     let found = read_rows(
-        book, 1, rows, true, prices, quantities, leasts, resources, stamps,
+        book,
+        1,
+        rows,
+        true,
+        prices,
+        quantities,
+        leasts,
+        resources,
+        stamps,
     );
     if let Verdict::Refused(number, place) = and_then(found, short) {
         return Answer::Refused(number, place);
     }
     Answer::Cleared(clearing(
-        p, n, prices, quantities, leasts, resources, stamps, cleared, committed,
+        p,
+        n,
+        prices,
+        quantities,
+        leasts,
+        resources,
+        stamps,
+        cleared,
+        committed,
     ))
 }
 

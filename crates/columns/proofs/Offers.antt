@@ -19,8 +19,8 @@ use Rattle.auction.specs.Offers.{Offers}
 use Rattle.values.specs.Values.{held}
 use Rattle.values.specs.Contents.{noOffer, offerAt}
 use Rattle.values.specs.declared.place.Offer.{Offer}
-use Rattle.columns.specs.Column.{rowPrice, rowQuantity, rowStamp, rowResource, Column, rowsOf}
-use Rattle.columns.specs.Columns.{Columns, empty, Blank, Room, ColumnsRead, Listed}
+use Rattle.columns.specs.inner.Column.{rowPrice, rowQuantity, rowStamp, rowResource, Column, rowsOf}
+use Rattle.columns.specs.inner.Columns.{Columns, empty, Blank, Room, ColumnsRead, Listed}
 
 module _ (value : ℕ → ℕ) {n m : ℕ} {after : List ℕ} (column : Column value n (zeros m) after) (enough : n ≤ m) where
   pub column-long : n ≤ length after

@@ -5,11 +5,12 @@ use mathlib.Core.List.{List}
 use Prim.Native.Nat.{ℕ, _+_}
 use lib.ListN.{set}
 use Rattle.laws.proofs.Fills.{filled-none, filled-more}
-use Rattle.values.specs.Values.{held, leastOf}
+use Rattle.values.specs.Values.{held}
+use Rattle.values.specs.inner.Values.{leastOf}
 use Rattle.values.specs.Contents.{offerAt}
 use Rattle.values.specs.declared.place.Offer.{Offer}
-use Rattle.columns.specs.Column.{rowPrice, rowQuantity, rowLeast, rowResource, rowStamp}
-use Rattle.columns.specs.Columns.{Columns, columnsOf, ColumnsRead}
+use Rattle.columns.specs.inner.Column.{rowPrice, rowQuantity, rowLeast, rowResource, rowStamp}
+use Rattle.columns.specs.inner.Columns.{Columns, columnsOf, ColumnsRead}
 
 -- before the first row each column is as it was
 pub columns-none : (offers : List Offer) (lists : Columns) → ColumnsRead offers 0 lists lists

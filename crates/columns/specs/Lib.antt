@@ -1,2 +1,1 @@
-pub mod Column
-pub mod Columns
+pub mod inner

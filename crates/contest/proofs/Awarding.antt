@@ -14,9 +14,9 @@ use Rattle.laws.specs.Orders.{byKey}
 use Rattle.laws.proofs.FilledRows.{filled-row, filled-past}
 use Rattle.laws.proofs.Filling.{length-filling}
 use Rattle.laws.proofs.Orders.{byKey-order, thenBy-order}
-use Rattle.contest.specs.Contest.{wins, contenders, inOrder}
-use Rattle.contest.specs.Sieve.{keyAt, settled, winners}
-use Rattle.contest.specs.Award.{Awarded, Sifted, Told}
+use Rattle.contest.specs.inner.Contest.{wins, contenders, inOrder}
+use Rattle.contest.specs.inner.Sieve.{keyAt, settled, winners}
+use Rattle.contest.specs.inner.Award.{Awarded, Sifted, Told}
 use Rattle.contest.proofs.Telling.{told-then}
 use Rattle.contest.proofs.Winning.{noOrder, wins-last, wins-level}
 

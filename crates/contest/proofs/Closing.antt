@@ -8,9 +8,9 @@ use mathlib.Core.Bool.{Bool}
 use Prim.Native.Nat.{ℕ, suc, _+_, _-_, _≤_, _<_}
 use native.Mathlib.Omega.{arith}
 use Rattle.laws.proofs.Compare.{le-unless}
-use Rattle.contest.specs.Sieve.{Parts, countUnder}
-use Rattle.contest.specs.Nearest.{HighestTo, LowestFrom}
-use Rattle.contest.specs.Search.{Between, Closer, Looked}
+use Rattle.contest.specs.inner.Sieve.{Parts, countUnder}
+use Rattle.contest.specs.inner.Nearest.{HighestTo, LowestFrom}
+use Rattle.contest.specs.inner.Search.{Between, Closer, Looked}
 use Rattle.contest.specs.declared.limit.KeyBracket.{KeyBracket}
 use Rattle.contest.proofs.Parting.{under-lowest, under-mono, under-same, parts-exact, parts-next}
 

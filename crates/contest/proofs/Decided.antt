@@ -9,7 +9,7 @@ use contract.Lifetimes.{Lfts}
 use denote.Ref.{RefT, now}
 use lib.Seq.{ext-getD}
 use Rattle.laws.proofs.Cases.{by-order}
-use Rattle.contest.specs.Award.{Awarded}
+use Rattle.contest.specs.inner.Award.{Awarded}
 use Rattle.contest.proofs.award.Reads as award
 
 -- what the contest leaves of a list is one list

@@ -13,7 +13,7 @@ use Rattle.laws.specs.Sum.{countWhere}
 use Rattle.laws.proofs.Compare.{le-unless}
 use Rattle.laws.proofs.Counts.{countWhere-mono}
 use Rattle.laws.proofs.Where.{sumWhere-none}
-use Rattle.contest.specs.Sieve.{Parts, countUnder}
+use Rattle.contest.specs.inner.Sieve.{Parts, countUnder}
 use Rattle.contest.proofs.Tests.{and-implies}
 
 module _ (contends : ℕ → Bool) (key : ℕ → ℕ) (n : ℕ) where

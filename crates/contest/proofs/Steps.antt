@@ -16,8 +16,8 @@ use Rattle.laws.proofs.Counts.{countWhere-mono, countWhere-less}
 use Rattle.laws.proofs.Orders.{by-comparison, thenBy-lower}
 use Rattle.laws.proofs.Ranks.{rankAmong}
 use Rattle.laws.proofs.Where.{sumWhere-either, sumWhere-same}
-use Rattle.contest.specs.Contest.{wins}
-use Rattle.contest.specs.Sieve.{countUnder, Parts}
+use Rattle.contest.specs.inner.Contest.{wins}
+use Rattle.contest.specs.inner.Sieve.{countUnder, Parts}
 use Rattle.contest.proofs.Tests.{and-implies, and-either, ltb-part}
 
 -- who contends and has the key `limit`

@@ -16,10 +16,10 @@ use Rattle.laws.proofs.Cases.{by-equality}
 use Rattle.laws.proofs.FilledRows.{filled-row, filled-past}
 use Rattle.laws.proofs.Filling.{length-filling}
 use Rattle.laws.proofs.Orders.{by-comparison, thenBy-equal}
-use Rattle.contest.specs.Contest.{contenders}
-use Rattle.contest.specs.Sieve.{Parts, countUnder, standsAfter, keyAt, stands, winners}
-use Rattle.contest.specs.Nearest.{Alike}
-use Rattle.contest.specs.Award.{Sifted, Told}
+use Rattle.contest.specs.inner.Contest.{contenders}
+use Rattle.contest.specs.inner.Sieve.{Parts, countUnder, standsAfter, keyAt, stands, winners}
+use Rattle.contest.specs.inner.Nearest.{Alike}
+use Rattle.contest.specs.inner.Award.{Sifted, Told}
 use Rattle.contest.proofs.Steps.{level, sift-step}
 use Rattle.contest.proofs.Winning.{wins-contenders, wins-order, wins-nothing}
 

@@ -13,7 +13,7 @@ use Rattle.laws.specs.Orders.{byKey, thenBy}
 use Rattle.laws.proofs.Counts.{countWhere-within}
 use Rattle.laws.proofs.Where.{sumWhere-same, sumWhere-none}
 use Rattle.laws.proofs.Ranks.{rankAmong}
-use Rattle.contest.specs.Contest.{wins}
+use Rattle.contest.specs.inner.Contest.{wins}
 
 -- the order in which no one stands before another
 abbrev pub noOrder : ℕ → ℕ → Bool

@@ -1,5 +1,1 @@
-pub mod Contest
-pub mod Sieve
-pub mod Nearest
-pub mod Search
-pub mod Award
+pub mod inner

@@ -3,8 +3,8 @@ ghost use mathlib.Core.Path.{_≡_};
 ghost use mathlib.Core.Bool.{cond, _&&_};
 ghost use Prim.Native.Nat.{_≤_};
 ghost use lib.Dec.{ltb, eqb};
-ghost use Rattle.contest.specs.Contest.{contenders};
-ghost use Rattle.contest.specs.Sieve.{Keyed, countUnder, keyAt};
+ghost use Rattle.contest.specs.inner.Contest.{contenders};
+ghost use Rattle.contest.specs.inner.Sieve.{Keyed, countUnder, keyAt};
 
 // A contender with a key under the limit counts as one.
 fn counted(standing: u32, key: u32, limit: u32) -> u32

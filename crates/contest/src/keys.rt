@@ -5,8 +5,8 @@ ghost use mathlib.Core.Path.{_≡_};
 ghost use mathlib.Core.Bool.{true};
 ghost use Prim.Native.Nat.{_≤_};
 ghost use lib.ListN.{length};
-ghost use Rattle.contest.specs.Sieve.{keyAt};
-ghost use Rattle.contest.specs.Nearest.{Alike, HighestTo, LowestFrom};
+ghost use Rattle.contest.specs.inner.Sieve.{keyAt};
+ghost use Rattle.contest.specs.inner.Nearest.{Alike, HighestTo, LowestFrom};
 
 // A key other than the first counts as one.
 fn differs(key: u32, first: u32) -> u32

@@ -10,8 +10,8 @@ ghost use mathlib.Core.Path.{_≡_};
 ghost use Prim.Native.Nat.{_≤_};
 ghost use lib.ListN.{length};
 ghost use Rattle.laws.specs.Filled.{filled};
-ghost use Rattle.contest.specs.Sieve.{Keyed, standsAfter, receives, settled, stands};
-ghost use Rattle.contest.specs.Award.{Awarded, Ready, Sifted};
+ghost use Rattle.contest.specs.inner.Sieve.{Keyed, standsAfter, receives, settled, stands};
+ghost use Rattle.contest.specs.inner.Award.{Awarded, Ready, Sifted};
 
 // Where a row stands after its key is standsAfter to the limit: a contender has won under it, contends at it, and is out over it.
 fn sifted(standing: u32, key: u32, limit: u32) -> u32

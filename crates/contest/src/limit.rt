@@ -7,9 +7,9 @@ use crate::count::under;
 use crate::keys::highest_to;
 use crate::keys::lowest_from;
 ghost use Prim.Native.Nat.{_≤_, _<_};
-ghost use Rattle.contest.specs.Contest.{contenders};
-ghost use Rattle.contest.specs.Sieve.{Keyed, keyAt};
-ghost use Rattle.contest.specs.Search.{Between, Closer, Looked, Open, LimitFound};
+ghost use Rattle.contest.specs.inner.Contest.{contenders};
+ghost use Rattle.contest.specs.inner.Sieve.{Keyed, keyAt};
+ghost use Rattle.contest.specs.inner.Search.{Between, Closer, Looked, Open, LimitFound};
 
 // Two numbers, and how many contend under each.
 pub struct KeyBracket {

@@ -13,8 +13,10 @@ use Rattle.units.proofs.Conversions.{daily-mono, daily-most}
 use Rattle.curve.specs.declared.Curve.{Curve}
 use Rattle.curve.specs.declared.Terms.{Terms}
 use Rattle.curve.specs.declared.Weights.{Weights}
-use Rattle.curve.specs.Points.{InRange, netCost, firstPrice, secondPrice, quantityAt, curveOf}
-use Rattle.curve.specs.Shape.{Usable, Shaped, weights2026, curve2026}
+use Rattle.curve.specs.Points.{netCost, firstPrice, secondPrice, quantityAt, curveOf}
+use Rattle.curve.specs.inner.Points.{InRange}
+use Rattle.curve.specs.Shape.{Shaped, weights2026, curve2026}
+use Rattle.curve.specs.inner.Shape.{Usable}
 
 -- two parts of a requirement of 1,000 tenths or more, apart by a thousandth of the whole or more, are different tenths
 pub quantity-grows : (r a b whole : ℕ) → 0 < whole → 1000 ≤ r → whole + 1000 * a ≤ 1000 * b

@@ -1,3 +1,4 @@
 pub mod Points
 pub mod Shape
 pub mod Price
+pub mod inner

@@ -3,7 +3,7 @@
 -- Costs are whole dollars per MW-year, prices cents per MW-day, quantities tenths of a megawatt, rates hundredths of a
 -- percent. `whole` is 100 percent of the requirement in hundredths of a percent.
 -- Assumes nothing.
-use Prim.Native.Nat.{ℕ, _+_, _-_, _*_, max, _≤_}
+use Prim.Native.Nat.{ℕ, _+_, _-_, _*_, max}
 use Rattle.laws.specs.Nearest.{nearest}
 use Rattle.units.specs.Conversion.{dailyCents}
 use Rattle.curve.specs.declared.Terms.{Terms}
@@ -36,12 +36,3 @@ curveOf w whole t =
       q2 = quantityAt t (whole + w .over) whole;
       q3 = quantityAt t (whole + w .last) whole;
     }
-
--- terms within the ranges of the outline
-pub record InRange (t : Terms) : Type 0 where
-  pub cost-least : 1 ≤ t .cost .0
-  pub cost-most : t .cost .0 ≤ 1000000
-  pub offset-most : t .offset .0 ≤ t .cost .0
-  pub outage-most : t .outage ≤ 5000
-  pub requirement-least : 1000 ≤ t .requirement
-  pub requirement-most : t .requirement ≤ 2000000

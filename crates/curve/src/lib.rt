@@ -4,8 +4,10 @@ use units::DollarsPerMwYear;
 ghost use mathlib.Core.Path.{_≡_};
 ghost use Prim.Native.Nat.{_*_, _≤_, _<_};
 ghost use Rattle.laws.specs.Nearest.{nearest};
-ghost use Rattle.curve.specs.Points.{InRange, netCost, firstPrice, curveOf};
-ghost use Rattle.curve.specs.Shape.{Usable, Shaped, curve2026};
+ghost use Rattle.curve.specs.Points.{netCost, firstPrice, curveOf};
+ghost use Rattle.curve.specs.inner.Points.{InRange};
+ghost use Rattle.curve.specs.Shape.{Shaped, curve2026};
+ghost use Rattle.curve.specs.inner.Shape.{Usable};
 ghost use Rattle.curve.specs.Price.{line, tenthPrice, curvePrice};
 
 // What the region's curve is made from, every value given and in range.

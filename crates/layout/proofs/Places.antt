@@ -17,7 +17,8 @@ use Rattle.laws.proofs.Cases.{by-order, and-true, and-left, and-right}
 use Rattle.laws.proofs.Everys.{every-at, every-all}
 use Rattle.block.specs.Bytes.{byte, blank}
 use Rattle.layout.specs.Blocks.{placeOf}
-use Rattle.layout.specs.Section.{usedOnly, placeHolds, placesHold}
+use Rattle.layout.specs.Section.{placeHolds, placesHold}
+use Rattle.layout.specs.inner.Section.{usedOnly}
 use Rattle.layout.specs.declared.section.LastBytes.{LastBytes}
 use Rattle.layout.proofs.Last.{same-test}
 

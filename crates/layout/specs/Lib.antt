@@ -3,3 +3,4 @@ pub mod Section
 pub mod Layout
 pub mod Form
 pub mod Read
+pub mod inner

@@ -1,10 +1,9 @@
 -- The decoder: what a book of bytes says.
 --
--- In order: the offers of rows that stand from a given block on; what a book says; rows that lie within it.
+-- In order: the offers of rows that stand from a given block on; what a book says.
 -- Assumes nothing.
-use Prim.Native.Nat.{ℕ, _+_, _*_, _/_, _≤_, _<_}
+use Prim.Native.Nat.{ℕ}
 use mathlib.Core.List.{List}
-use lib.ListN.{length}
 use Rattle.laws.specs.Lists.{listOf}
 use Rattle.values.specs.Head.{parametersOf}
 use Rattle.values.specs.Place.{offerOf}
@@ -25,8 +24,3 @@ unfoldable pub contentsOf : List ℕ → Contents
 contentsOf b =
     let section = offersSection b in
     record { parameters = parametersOf (blockOf b 0); offers = rowOffers b (section .first) (section .rows) }
-
--- there are at most 600 rows, and the block of each lies within the book, where those of their section start at `first`
-pub record Inside (b : List ℕ) (first n : ℕ) : Type 0 where
-  pub few : n ≤ 600
-  pub within : (row : ℕ) → row < n → (first + row / 15) * 512 + 512 ≤ length b

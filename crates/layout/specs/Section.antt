@@ -1,13 +1,11 @@
 -- A section of a book: the rows of one kind, in blocks of their own that stand one after another and are numbered on, and
 -- what refusal 3 tests of them.
 --
--- In order: how many blocks its rows need, and how many rows stand in each; a place; a block; all of its blocks; a section
--- whose blocks are there.
+-- In order: how many blocks its rows need, and how many rows stand in each; a place; a block; all of its blocks.
 -- Assumes nothing.
-use Prim.Native.Nat.{ℕ, _+_, _-_, _*_, _/_, _≤_, min}
-use mathlib.Core.Bool.{Bool, true, cond, _&&_}
+use Prim.Native.Nat.{ℕ, _+_, _-_, _*_, _/_, min}
+use mathlib.Core.Bool.{Bool, cond, _&&_}
 use mathlib.Core.List.{List}
-use lib.ListN.{length}
 use lib.Dec.{eqb, leb, ltb}
 use Rattle.laws.specs.Sum.{every}
 use Rattle.block.specs.Bytes.{byte, u16At, u32At, opensWith, blank}
@@ -43,10 +41,6 @@ usedHolds last p =
     && (absentIsZero (marked (byte p 28) 0) (u32At p 8)
     && absentIsZero (marked (byte p 28) 1) (u32At p 16))
 
--- a place of a block, as far as it is used
-unfoldable pub usedOnly : LastBytes → Bool → List ℕ → Bool
-usedOnly last used p = cond used (usedHolds last p) true
-
 -- a place of a block; an unused one is all zero
 unfoldable pub placeHolds : LastBytes → Bool → List ℕ → Bool
 placeHolds last used p = cond used (usedHolds last p) (blank p 0 32)
@@ -74,11 +68,3 @@ blockFault b t j =
 -- 3 at the blocks of a section, lowest first
 unfoldable pub sectionFault : List ℕ → Section → Verdict
 sectionFault b t = first (blockFault b t) (blocksFor (t .rows))
-
--- the blocks of a section are there
-pub record Fits (b : List ℕ) (t : Section) : Type 0 where
-  -- they lie within the bytes
-  pub within : (t .first + blocksFor (t .rows)) * 512 ≤ length b
-  -- its rows, and the numbers of its blocks, are numbers of 16 bits
-  pub few : t .rows ≤ 65535
-  pub numbered : t .number + blocksFor (t .rows) ≤ 65536

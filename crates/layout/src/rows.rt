@@ -19,7 +19,8 @@ ghost use lib.ListN.{length};
 ghost use lib.Dec.{ltb};
 ghost use Rattle.laws.specs.Sum.{every};
 ghost use Rattle.layout.specs.Blocks.{placeOf};
-ghost use Rattle.layout.specs.Section.{lastHolds, usedHolds, usedOnly, placesHold, rowsHold, sectionFault, Fits};
+ghost use Rattle.layout.specs.Section.{lastHolds, usedHolds, placesHold, rowsHold, sectionFault};
+ghost use Rattle.layout.specs.inner.Section.{usedOnly, Fits};
 
 // Whether the last four bytes of a used place follow the rule, byte by byte.
 fn bytes_hold(p: &[u8], last: LastBytes) -> bool

@@ -17,8 +17,8 @@ use Rattle.values.specs.declared.Verdict.{Verdict}
 use Rattle.values.specs.declared.head.Parameters.{Parameters}
 use Rattle.values.specs.declared.place.Offer.{Offer}
 use Rattle.limits.specs.Parameters.{missingFault}
-use Rattle.limits.specs.Repeats.{firstRepeat}
-use Rattle.limits.specs.Rows.{withRepeats}
+use Rattle.limits.specs.inner.Repeats.{firstRepeat}
+use Rattle.limits.specs.inner.Rows.{withRepeats}
 use Rattle.limits.proofs.parameters.missing.Reads as missing
 use Rattle.limits.proofs.parameters.missing_in.Reads as missing-in
 use Rattle.limits.proofs.parameters.within.Reads as within

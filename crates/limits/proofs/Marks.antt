@@ -19,7 +19,8 @@ use Rattle.values.specs.Head.{parametersOf}
 use Rattle.values.specs.Refusals.{missingParameter, unless}
 use Rattle.values.specs.declared.Verdict.{Verdict}
 use Rattle.values.specs.declared.Verdict.the-variants.{Passed, Refused}
-use Rattle.limits.specs.Parameters.{fieldFault, missingFault, missingMarks}
+use Rattle.limits.specs.Parameters.{fieldFault, missingFault}
+use Rattle.limits.specs.inner.Parameters.{missingMarks}
 
 -- ---- two verdicts
 

@@ -10,7 +10,8 @@ use Rattle.values.specs.declared.Value.{Value}
 use Rattle.values.specs.declared.Value.the-variants.{Given, Missing}
 use Rattle.values.specs.declared.Verdict.the-variants.{Passed, Refused}
 use Rattle.values.specs.declared.place.Offer.{Offer}
-use Rattle.limits.specs.Offers.{isGiven, priceFault, offerInRange, offerFault}
+use Rattle.limits.specs.Offers.{priceFault, offerInRange, offerFault}
+use Rattle.limits.specs.inner.Offers.{isGiven}
 
 priceFault-tested : (pricesNeeded : Bool) (price : Value) (row : ℕ)
     → cond pricesNeeded (priceFault price row) Passed ≡ unless (isGiven price || not pricesNeeded) (noPrice row)

@@ -3,7 +3,7 @@
 -- The offers of a book are a function of the row. Clearing needs every price; soundness does not.
 -- Assumes nothing.
 use Prim.Native.Nat.{ℕ}
-use mathlib.Core.Bool.{Bool, true, false, cond, _&&_}
+use mathlib.Core.Bool.{Bool, cond, _&&_}
 use lib.Dec.{leb}
 use Rattle.values.specs.Refusals.{noPrice, offerOutOfRange, repeatedResource, unless, andThen, first}
 use Rattle.values.specs.declared.Value.{Value}
@@ -13,11 +13,6 @@ use Rattle.values.specs.declared.Verdict.the-variants.{Passed}
 use Rattle.values.specs.declared.place.Offer.{Offer}
 use Rattle.limits.specs.Parameters.{within, givenWithin}
 use Rattle.limits.specs.Repeats.{fresh}
-
--- a value that is given
-abbrev pub isGiven : Value → Bool
-isGiven (Given number) = true
-isGiven Missing = false
 
 -- 6: the row's price is missing
 abbrev pub priceFault : Value → ℕ → Verdict

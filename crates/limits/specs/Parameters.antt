@@ -3,7 +3,6 @@
 use Prim.Native.Nat.{ℕ}
 use mathlib.Core.Bool.{Bool, true, _&&_}
 use lib.Dec.{leb}
-use Rattle.values.specs.Values.{marked}
 use Rattle.values.specs.Refusals.{missingParameter, parameterOutOfRange, unless, andThen}
 use Rattle.values.specs.declared.Value.{Value}
 use Rattle.values.specs.declared.Value.the-variants.{Given, Missing}
@@ -32,14 +31,6 @@ missingFault p =
     (andThen (fieldFault 3 (p .offset))
     (andThen (fieldFault 4 (p .outage))
     (fieldFault 5 (p .requirement))))
-
--- the same by the marks alone, of which bits 0 to 3 say that fields 2 to 5 are given
-unfoldable pub missingMarks : ℕ → Verdict
-missingMarks marks =
-    andThen (unless (marked marks 0) (missingParameter 2))
-    (andThen (unless (marked marks 1) (missingParameter 3))
-    (andThen (unless (marked marks 2) (missingParameter 4))
-    (unless (marked marks 3) (missingParameter 5))))
 
 -- the most that an offset can be: C, and where C is missing 1,000,000
 abbrev pub offsetMost : Value → ℕ

@@ -5,7 +5,8 @@ use values::Value;
 use values::Verdict;
 use values::place::Offer;
 ghost use mathlib.Core.Path.{_≡_};
-ghost use Rattle.limits.specs.Offers.{isGiven, offerInRange, offerFault};
+ghost use Rattle.limits.specs.Offers.{offerInRange, offerFault};
+ghost use Rattle.limits.specs.inner.Offers.{isGiven};
 
 // Whether a value is given.
 fn is_given(v: Value) -> bool

@@ -6,7 +6,8 @@ ghost use mathlib.Core.Path.{_≡_};
 ghost use Prim.Native.Nat.{_≤_};
 ghost use lib.ListN.{length};
 ghost use Rattle.values.specs.Head.{parametersOf};
-ghost use Rattle.limits.specs.Parameters.{within, givenWithin, offsetMost, missingMarks, missingFault, rangeFault};
+ghost use Rattle.limits.specs.Parameters.{within, givenWithin, offsetMost, missingFault, rangeFault};
+ghost use Rattle.limits.specs.inner.Parameters.{missingMarks};
 
 // 4 by the marks: trailing zeros of the inverted marks, plus two, give the first missing field.
 pub fn missing(marks: u8) -> Verdict

@@ -4,8 +4,8 @@ use values::Verdict;
 ghost use mathlib.Core.Path.{_≡_};
 ghost use Prim.Native.Nat.{_≤_};
 ghost use lib.ListN.{length, getD};
-ghost use Rattle.limits.specs.Repeats.{firstRepeat};
-ghost use Rattle.limits.specs.Rows.{rowsBefore, withRepeats};
+ghost use Rattle.limits.specs.inner.Repeats.{firstRepeat};
+ghost use Rattle.limits.specs.inner.Rows.{rowsBefore, withRepeats};
 
 // The first of n rows whose resource number stands in an earlier row, and n where there is none. The search starts past the
 // rows that a table of flags shows to be fresh.

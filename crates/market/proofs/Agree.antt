@@ -19,8 +19,10 @@ use Rattle.auction.specs.Offers.{Offers, Demand, supply, supplyBelow}
 use Rattle.auction.specs.Clearing.{clearedTotal, nextPrice, clearingPrice}
 use Rattle.auction.proofs.Supply.{supply-mono, supplyBelow-suc}
 use Rattle.auction.proofs.NextPrice.{next-found, next-absent}
-use Rattle.market.specs.Stop.{stopLevel, StopsAt}
-use Rattle.market.specs.Price.{asPrice, levelPrice, priceAt}
+use Rattle.market.specs.Stop.{stopLevel}
+use Rattle.market.specs.inner.Stop.{StopsAt}
+use Rattle.market.specs.Price.{asPrice}
+use Rattle.market.specs.inner.Price.{levelPrice, priceAt}
 use Rattle.market.specs.declared.level.Level.{Level}
 use Rattle.market.specs.declared.price.ClearingPrice.the-variants.{NoPrice}
 use Rattle.market.proofs.Stops.{stops, stop-below}

@@ -16,8 +16,8 @@ use Rattle.laws.proofs.Cases.{by-order}
 use Rattle.laws.proofs.Where.{sumWhere-same}
 use Rattle.auction.specs.Offers.{Offers, Demand, supply, supplyBelow}
 use Rattle.auction.proofs.Supply.{supply-mono, supplyBelow-zero, supplyBelow-suc}
-use Rattle.market.specs.Rows.{listed}
-use Rattle.market.specs.Bracket.{Under, Lowered, NoneBefore, Reaches}
+use Rattle.market.specs.inner.Rows.{listed}
+use Rattle.market.specs.inner.Bracket.{Under, Lowered, NoneBefore, Reaches}
 use Rattle.market.specs.declared.bracket.PriceBracket.{PriceBracket}
 
 -- below the price 0 nothing is offered, and nothing can be supplied

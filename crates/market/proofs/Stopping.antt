@@ -17,8 +17,8 @@ use Rattle.auction.specs.Clearing.{clearedTotal}
 use Rattle.auction.specs.Shares.{levelAmount}
 use Rattle.auction.proofs.Supply.{supply-mono, supply-split, supply-supplyBelow, supplyBelow-supply}
 use Rattle.auction.proofs.Total.{supplies, supplies-closed}
-use Rattle.market.specs.Bracket.{Under, Reaches}
-use Rattle.market.specs.Stop.{StopsAt, LevelBetween}
+use Rattle.market.specs.inner.Bracket.{Under, Reaches}
+use Rattle.market.specs.inner.Stop.{StopsAt, LevelBetween}
 use Rattle.market.specs.declared.bracket.PriceBracket.{PriceBracket}
 use Rattle.market.specs.declared.level.Level.{Level}
 use Rattle.market.proofs.Narrowing.{supplied-at, under-over}

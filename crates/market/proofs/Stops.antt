@@ -15,7 +15,8 @@ use Rattle.laws.proofs.Largests.{Closed, largest-passes, largest-found}
 use Rattle.auction.specs.Offers.{Offers, supply, supplyBelow, levelSum}
 use Rattle.auction.specs.Shares.{levelAmount}
 use Rattle.auction.proofs.Supply.{supplyBelow-zero, supplyBelow-suc, supplyBelow-mono}
-use Rattle.market.specs.Stop.{stopLevel, StopsAt}
+use Rattle.market.specs.Stop.{stopLevel}
+use Rattle.market.specs.inner.Stop.{StopsAt}
 use Rattle.market.specs.declared.level.Level.{Level}
 
 abbrev pub stops : Offers → ℕ → ℕ → Bool

@@ -11,8 +11,8 @@ ghost use Prim.Native.Nat.{_≤_, _<_};
 ghost use lib.ListN.{length};
 ghost use Rattle.curve.specs.Shape.{Shaped};
 ghost use Rattle.curve.specs.Price.{tenthPrice, demandOf};
-ghost use Rattle.market.specs.Rows.{RowLists, listed};
-ghost use Rattle.market.specs.Bracket.{Under, Narrower, Lowered};
+ghost use Rattle.market.specs.inner.Rows.{RowLists, listed};
+ghost use Rattle.market.specs.inner.Bracket.{Under, Narrower, Lowered};
 
 // A price, with what is offered strictly below it, all of which clears; and a price up to which the total is looked for, with
 // how much is offered up to it.

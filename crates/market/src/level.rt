@@ -3,7 +3,7 @@ use crate::supply::supply_at;
 ghost use mathlib.Core.Path.{_≡_};
 ghost use Prim.Native.Nat.{_≤_};
 ghost use Rattle.auction.specs.Offers.{supplyBelow};
-ghost use Rattle.market.specs.Rows.{RowLists, listed};
+ghost use Rattle.market.specs.inner.Rows.{RowLists, listed};
 
 // The level at which a total stops: the total, the level's price, what it receives of the total, what is offered at it,
 // and what is offered at it or below.

@@ -7,7 +7,7 @@ ghost use mathlib.Core.Path.{_≡_};
 ghost use Prim.Native.Nat.{_≤_};
 ghost use Rattle.curve.specs.Shape.{Shaped};
 ghost use Rattle.curve.specs.Price.{demandOf};
-ghost use Rattle.market.specs.Price.{priceAt};
+ghost use Rattle.market.specs.inner.Price.{priceAt};
 
 // What a clearing says of its price. Where nothing clears there is none, and none is no number.
 pub enum ClearingPrice {

@@ -7,8 +7,8 @@ ghost use Prim.Native.Nat.{_≤_};
 ghost use lib.Dec.{leb};
 ghost use lib.ListN.{length};
 ghost use Rattle.auction.specs.Offers.{supply};
-ghost use Rattle.market.specs.Rows.{RowLists, listed};
-ghost use Rattle.market.specs.Bracket.{NoneBefore};
+ghost use Rattle.market.specs.inner.Rows.{RowLists, listed};
+ghost use Rattle.market.specs.inner.Bracket.{NoneBefore};
 
 // A row's quantity where its price is at or below the limit, and else nothing.
 fn taken(price: u32, quantity: u32, limit: u32) -> u32

@@ -13,9 +13,9 @@ ghost use Prim.Native.Nat.{_≤_, _<_};
 ghost use Rattle.auction.specs.Clearing.{clearedTotal};
 ghost use Rattle.curve.specs.Shape.{Shaped};
 ghost use Rattle.curve.specs.Price.{demandOf};
-ghost use Rattle.market.specs.Bracket.{Reaches};
-ghost use Rattle.market.specs.Rows.{RowLists, listed};
-ghost use Rattle.market.specs.Stop.{StopsAt, LevelBetween};
+ghost use Rattle.market.specs.inner.Bracket.{Reaches};
+ghost use Rattle.market.specs.inner.Rows.{RowLists, listed};
+ghost use Rattle.market.specs.inner.Stop.{StopsAt, LevelBetween};
 
 // A guess, or the nearest number to it that is past `low` and not past `high`.
 fn inside(guess: u32, low: u32, high: u32) -> u32

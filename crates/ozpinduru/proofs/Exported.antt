@@ -9,7 +9,7 @@ use native.Mathlib.Omega.{arith}
 use Rattle.auction.specs.Settlement.{mills}
 use Rattle.market.specs.declared.price.ClearingPrice.{ClearingPrice}
 use Rattle.market.specs.declared.price.ClearingPrice.the-variants.{Price, NoPrice}
-use Rattle.settle.specs.Read.{quoted}
+use Rattle.settle.specs.inner.Read.{quoted}
 use Rattle.ozpinduru.specs.Export.{clearingKind, clearingCents, exported, exportedMakeWhole}
 use Rattle.sale.specs.declared.Clearing.{Clearing}
 use Rattle.call.specs.declared.Answer.{Answer}

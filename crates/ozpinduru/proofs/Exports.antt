@@ -34,7 +34,8 @@ use Rattle.call.specs.Answer.{answerBy, answerOf, callFault}
 use Rattle.call.specs.declared.Answer.{Answer}
 use Rattle.call.specs.declared.Answer.the-variants.{Cleared as Answer·Cleared}
 use Rattle.call.proofs.Calls.{passed-callable}
-use Rattle.ozpinduru.specs.Export.{exported, answerTo, rowsStated, exportedMakeWhole, noAmount, noValue}
+use Rattle.ozpinduru.specs.Export.{exported, answerTo, exportedMakeWhole, noAmount, noValue}
+use Rattle.ozpinduru.specs.inner.Export.{rowsStated}
 use Rattle.ozpinduru.specs.Given.{valueIn}
 use Rattle.ozpinduru.specs.Plotted.{pointsOf, pointsRefused, exportedCurve, plottedPrice, priceRefused, exportedPrice}
 use Rattle.ozpinduru.specs.declared.structs.OzpValue.{OzpValue}

@@ -22,7 +22,8 @@ use Rattle.layout.specs.Form.{formFault, offerCount}
 use Rattle.layout.specs.Read.{contentsOf}
 use Rattle.layout.proofs.Passing.{form-passed-length, form-passed-row}
 use Rattle.layout.proofs.Contained.{contents-offers, contents-count, offer-of-row}
-use Rattle.ozpinduru.specs.Listed.{offerOut, contentsOut, contentsRefused, contentsBy, readFault, exportedContents, rowsFilled, filledRows, HasRow, rowOut}
+use Rattle.ozpinduru.specs.Listed.{offerOut, contentsOut, contentsRefused, contentsBy, readFault, exportedContents, rowsFilled, filledRows, rowOut}
+use Rattle.ozpinduru.specs.inner.Listed.{HasRow}
 use Rattle.ozpinduru.specs.declared.structs.OzpContents.{OzpContents}
 use Rattle.ozpinduru.specs.declared.structs.OzpRow.{OzpRow}
 

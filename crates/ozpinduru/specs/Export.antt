@@ -10,7 +10,7 @@ use mathlib.Core.Bool.{cond}
 use mathlib.Core.List.{List}
 use mathlib.Core.Option.{none, some}
 use lib.ListN.{length}
-use lib.Dec.{eqb, ltb}
+use lib.Dec.{eqb}
 use Rattle.auction.specs.Settlement.{mills}
 use Rattle.market.specs.declared.price.ClearingPrice.{ClearingPrice}
 use Rattle.market.specs.declared.price.ClearingPrice.the-variants.{Price, NoPrice}
@@ -66,10 +66,6 @@ exported (Answer·Refused number place) rows =
       number = number;
       place = place;
     }
-
--- what the code reads for the number of rows: no value, where there is no block to state it in
-unfoldable pub rowsStated : List ℕ → ℕ
-rowsStated b = cond (ltb (length b) 512) noValue (length (contentsOf b .offers))
 
 -- the answer of a call with result buffers of these lengths
 abbrev pub answerTo : List ℕ → ℕ → ℕ → Answer

@@ -4,3 +4,4 @@ pub mod Plotted
 pub mod Listed
 pub mod Texts
 pub mod Words
+pub mod inner

@@ -3,7 +3,7 @@
 -- In order: a value and an offer; what a book says besides its rows, or why it is refused; how many rows are filled in; what a
 -- reading returns and leaves in the array of rows.
 -- Assumes nothing.
-use Prim.Native.Nat.{ℕ, zero, suc, _<_}
+use Prim.Native.Nat.{ℕ, zero, suc}
 use mathlib.Core.Path.{_≡_}
 use mathlib.Core.Bool.{cond}
 use mathlib.Core.List.{List}
@@ -98,11 +98,6 @@ rowsFilled c = cond (eqb (c .kind) 1) (c .rows) 0
 unfoldable pub filledRows : (ℕ → OzpRow) → ℕ → List OzpRow → List OzpRow
 filledRows f zero xs = xs
 filledRows f (suc n) xs = set (filledRows f n xs) n (f n)
-
--- a row that a book has, where 1 to 3 do not refuse it
-pub record HasRow (b : List ℕ) (row : ℕ) : Type 0 where
-  pub form : formFault b ≡ Passed
-  pub there : row < length (contentsOf b .offers)
 
 -- the values of a row of a book
 unfoldable pub rowOut : List ℕ → ℕ → OzpRow

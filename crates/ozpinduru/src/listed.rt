@@ -15,7 +15,8 @@ use values::head::parameters_in;
 use values::place::Offer;
 use values::place::offer_in;
 ghost use mathlib.Core.Path.{_≡_};
-ghost use Rattle.ozpinduru.specs.Listed.{valueOut, offerOut, contentsOut, contentsRefused, readFault, exportedContents, rowsFilled, HasRow, rowOut};
+ghost use Rattle.ozpinduru.specs.Listed.{valueOut, offerOut, contentsOut, contentsRefused, readFault, exportedContents, rowsFilled, rowOut};
+ghost use Rattle.ozpinduru.specs.inner.Listed.{HasRow};
 
 // A value as it goes out: one that is missing has no number.
 fn value_out(v: Value) -> OzpValue

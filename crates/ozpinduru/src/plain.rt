@@ -9,7 +9,8 @@ use market::price::ClearingPrice;
 use sale::Clearing;
 ghost use mathlib.Core.Path.{_≡_};
 ghost use Rattle.call.specs.declared.Answer.the-variants.{Cleared};
-ghost use Rattle.ozpinduru.specs.Export.{clearingKind, clearingCents, rowsStated, exported};
+ghost use Rattle.ozpinduru.specs.Export.{clearingKind, clearingCents, exported};
+ghost use Rattle.ozpinduru.specs.inner.Export.{rowsStated};
 
 // The number of offers that a book states, where it has a block to state it in.
 pub fn rows_stated(book: &[u8]) -> u32

@@ -3,7 +3,7 @@
 use Rattle.auction.specs.Offers.{Falling}
 use Rattle.values.specs.declared.head.Parameters.{Parameters}
 use Rattle.limits.specs.Ranges.{Ranged}
-use Rattle.curve.specs.Points.{InRange}
+use Rattle.curve.specs.inner.Points.{InRange}
 use Rattle.curve.specs.Shape.{Shaped}
 use Rattle.curve.specs.Price.{demandOf}
 use Rattle.curve.proofs.Shapes.{curve2026-shaped}

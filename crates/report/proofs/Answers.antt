@@ -26,7 +26,8 @@ use Rattle.call.proofs.Calls.{fault-first}
 use Rattle.sale.proofs.Payments.{quoted-asPrice}
 use Rattle.call.proofs.Outcomes.{cleared-accepted, cleared-clearing, cleared-row, committed-row, refused-first}
 use Rattle.report.specs.Lines.{clearedWord, dailyWord, yearWord, lineText, priceText, refusalText, rowText}
-use Rattle.report.specs.Report.{soldText, clearingText, reportBy, reportText}
+use Rattle.report.specs.Report.{clearingText, reportBy, reportText}
+use Rattle.report.specs.inner.Report.{soldText}
 use Rattle.report.proofs.Fitting.{rowsText-ext}
 
 module _ (b : List ℕ) where

@@ -17,7 +17,7 @@ use Rattle.values.specs.Place.{offerOf}
 use Rattle.values.specs.declared.place.Offer.{Offer}
 use Rattle.layout.specs.Blocks.{rowBytes}
 use Rattle.layout.specs.Read.{rowOffer}
-use Rattle.settle.specs.Read.{quoted}
+use Rattle.settle.specs.inner.Read.{quoted}
 use Rattle.report.specs.Lines.{priceWord, noPriceLine, endedText, lineText, priceText, rowText, rowsText, Fitted}
 
 module _ {out : List ℕ} {at : ℕ} {bytes after : List ℕ} {end : ℕ} where

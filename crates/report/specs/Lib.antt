@@ -1,2 +1,3 @@
 pub mod Lines
 pub mod Report
+pub mod inner

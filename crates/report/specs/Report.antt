@@ -1,26 +1,16 @@
 -- The report of a book: for every string of bytes one text.
 -- Assumes nothing.
-use Prim.Native.Nat.{ℕ, _-_}
+use Prim.Native.Nat.{ℕ}
 use mathlib.Core.List.{List, _++_}
 use mathlib.Core.Option.{Option}
-use lib.ListN.{length, getD}
-use Rattle.auction.specs.Settlement.{mills}
+use lib.ListN.{length}
 use Rattle.values.specs.declared.Verdict.{Verdict}
 use Rattle.values.specs.declared.Verdict.the-variants.{Passed, Refused}
-use Rattle.settle.specs.Read.{quoted}
-use Rattle.layout.specs.Form.{offerCount}
-use Rattle.layout.specs.Read.{rowOffer, contentsOf}
+use Rattle.layout.specs.Read.{contentsOf}
 use Rattle.values.specs.Contents.{Contents, offerAt}
 use Rattle.book.specs.Faults.{firstFault}
 use Rattle.sale.specs.Auction.{total, price, rowCleared, rowCommitted, rowMakeWhole, dailyTotal, yearTotal}
-use Rattle.sale.specs.declared.Clearing.{Clearing}
 use Rattle.report.specs.Lines.{clearedWord, dailyWord, yearWord, lineText, priceText, refusalText, rowText, rowsText}
-
--- a row's line, with what it clears and commits in two lists
-abbrev pub soldLine : List ℕ → Option ℕ → List ℕ → List ℕ → ℕ → List ℕ
-soldLine b quote cleared committed row =
-    rowText (rowOffer b 1 row .resource) (getD cleared row 0) (getD committed row 0)
-    (mills quote (getD committed row 0 - getD cleared row 0))
 
 -- the lines of a clearing: X, the price, every row in book order, the daily and the year total
 abbrev pub linesText : ℕ → Option ℕ → (ℕ → List ℕ) → ℕ → ℕ → ℕ → List ℕ
@@ -30,12 +20,6 @@ linesText x quote line n daily year =
     ++ rowsText line n
     ++ lineText dailyWord daily
     ++ lineText yearWord year
-
--- those of a clearing whose rows stand in two lists
-unfoldable pub soldText : List ℕ → Clearing → List ℕ → List ℕ → List ℕ
-soldText b c cleared committed =
-    linesText (c .total) (quoted (c .price)) (soldLine b (quoted (c .price)) cleared committed) (offerCount b)
-    (c .daily) (c .year)
 
 -- those of what an accepted book says
 unfoldable pub clearingText : Contents → List ℕ

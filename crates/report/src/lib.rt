@@ -19,11 +19,13 @@ ghost use lib.ListN.{length};
 ghost use Rattle.io.specs.Counts.{Counts};
 ghost use Rattle.values.specs.declared.Verdict.the-variants.{Passed};
 ghost use Rattle.auction.specs.Settlement.{mills};
-ghost use Rattle.settle.specs.Read.{quoted};
-ghost use Rattle.layout.specs.Read.{Inside, rowOffer};
+ghost use Rattle.settle.specs.inner.Read.{quoted};
+ghost use Rattle.layout.specs.Read.{rowOffer};
+ghost use Rattle.layout.specs.inner.Read.{Inside};
 ghost use Rattle.book.specs.Faults.{firstFault};
 ghost use Rattle.report.specs.Lines.{rowText, rowsText, Fitted};
-ghost use Rattle.report.specs.Report.{soldLine, soldText, reportText};
+ghost use Rattle.report.specs.Report.{reportText};
+ghost use Rattle.report.specs.inner.Report.{soldLine, soldText};
 
 // Puts the line of a row of a book at a price.
 fn put_offer(

@@ -5,7 +5,7 @@ use text::put_bytes;
 use text::put_number;
 ghost use Prim.Native.Nat.{_+_, _≤_};
 ghost use lib.ListN.{length};
-ghost use Rattle.settle.specs.Read.{quoted};
+ghost use Rattle.settle.specs.inner.Read.{quoted};
 ghost use Rattle.report.specs.Lines.{endedText, wordText, priceText, refusalText, rowText, Fitted};
 
 // Puts a number and one byte behind it.

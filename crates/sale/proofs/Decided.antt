@@ -6,8 +6,8 @@ use Prim.Native.Nat.{ℕ}
 use contract.Lifetimes.{Lfts}
 use denote.Ref.{RefT, now}
 use Rattle.values.specs.declared.head.Parameters.{Parameters}
-use Rattle.columns.specs.Columns.{columnsOf}
-use Rattle.sale.specs.Sale.{SomeStand}
+use Rattle.columns.specs.inner.Columns.{columnsOf}
+use Rattle.sale.specs.inner.Sale.{SomeStand}
 use Rattle.sale.specs.declared.Clearing.{Clearing}
 use Rattle.sale.proofs.payment.clearing.Reads as clearing
 

@@ -27,15 +27,16 @@ use Rattle.region.specs.Region.{regionCurve}
 use Rattle.curve.proofs.Prices.{price-most}
 use Rattle.market.specs.Price.{asPrice}
 use Rattle.market.specs.declared.price.ClearingPrice.{ClearingPrice}
-use Rattle.settle.specs.Read.{optional, quoted}
-use Rattle.settle.specs.Rows.{committedFrom, rowCommits, rowPast, Committable}
+use Rattle.settle.specs.Read.{optional}
+use Rattle.settle.specs.inner.Read.{quoted}
+use Rattle.settle.specs.inner.Rows.{committedFrom, rowCommits, rowPast, Committable}
 use Rattle.settle.proofs.Commits.{committed-from, mills-sum}
 use Rattle.values.specs.declared.Value.{Value}
 use Rattle.values.specs.declared.Value.the-variants.{Given, Missing}
-use Rattle.columns.specs.Columns.{Columns}
+use Rattle.columns.specs.inner.Columns.{Columns}
 use Rattle.sale.specs.Auction.{offersOf, demand, total, price, rowCleared, rowCommitted, rowMakeWhole, allMakeWhole, dailyTotal, yearTotal}
 use Rattle.sale.specs.Payment.{clearingOf, clearedList, committedList}
-use Rattle.sale.specs.Sale.{Stands}
+use Rattle.sale.specs.inner.Sale.{Stands}
 use Rattle.sale.proofs.Ground.{clearable-shaped, clearable-falls, clearable-proper}
 use Rattle.sale.proofs.Sales.{leasts-long, leasts-row}
 

@@ -14,18 +14,19 @@ use Rattle.values.specs.declared.head.Parameters.{Parameters}
 use Rattle.region.specs.Region.{regionCurve}
 use Rattle.curve.specs.Price.{demandOf}
 use Rattle.curve.specs.declared.Curve.{Curve}
-use Rattle.market.specs.Rows.{RowLists, listed}
-use Rattle.market.specs.Stop.{StopsAt}
-use Rattle.market.specs.Price.{asPrice, priceAt}
+use Rattle.market.specs.inner.Rows.{RowLists, listed}
+use Rattle.market.specs.inner.Stop.{StopsAt}
+use Rattle.market.specs.Price.{asPrice}
+use Rattle.market.specs.inner.Price.{priceAt}
 use Rattle.market.specs.declared.level.Level.{Level}
 use Rattle.market.specs.declared.price.ClearingPrice.{ClearingPrice}
 use Rattle.market.proofs.Agree.{price-agrees}
-use Rattle.shares.specs.Out.{SharedOut}
-use Rattle.columns.specs.Column.{rowsOf}
-use Rattle.columns.specs.Columns.{Columns}
+use Rattle.shares.specs.inner.Out.{SharedOut}
+use Rattle.columns.specs.inner.Column.{rowsOf}
+use Rattle.columns.specs.inner.Columns.{Columns}
 use Rattle.sale.specs.Auction.{total, price}
 use Rattle.sale.specs.Payment.{clearedList}
-use Rattle.sale.specs.Sale.{Stands, SoldColumns}
+use Rattle.sale.specs.inner.Sale.{Stands, SoldColumns}
 use Rattle.sale.specs.declared.sell.Sale.{Sale}
 use Rattle.sale.proofs.Sales.{columns-offers, shared-cleared}
 

@@ -13,15 +13,15 @@ use Rattle.auction.specs.Offers.{Offers}
 use Rattle.auction.specs.Shares.{cleared}
 use Rattle.values.specs.Contents.{Contents}
 use Rattle.values.specs.declared.head.Parameters.{Parameters}
-use Rattle.market.specs.Rows.{RowLists}
-use Rattle.shares.specs.Out.{SharedOut, Ordered}
+use Rattle.market.specs.inner.Rows.{RowLists}
+use Rattle.shares.specs.inner.Out.{SharedOut, Ordered}
 use Rattle.shares.proofs.Outcome.{shared-filled}
-use Rattle.columns.specs.Column.{rowPrice, rowQuantity, rowLeast, rowResource, rowStamp, rowsOf}
-use Rattle.columns.specs.Columns.{Columns}
+use Rattle.columns.specs.inner.Column.{rowPrice, rowQuantity, rowLeast, rowResource, rowStamp, rowsOf}
+use Rattle.columns.specs.inner.Columns.{Columns}
 use Rattle.columns.proofs.Offers.{column-long, column-row, listed-offers}
 use Rattle.sale.specs.Auction.{offersOf, total, rowCleared}
 use Rattle.sale.specs.Payment.{clearedList}
-use Rattle.sale.specs.Sale.{Stands}
+use Rattle.sale.specs.inner.Sale.{Stands}
 
 module _ (c : Contents) (p : Parameters) (n : ℕ) (v : Columns) (s : Stands c p n v) where
   -- a row of the code is one of the contents

@@ -1,3 +1,3 @@
 pub mod Auction
 pub mod Payment
-pub mod Sale
+pub mod inner

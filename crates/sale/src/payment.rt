@@ -8,8 +8,8 @@ use settle::mills_of;
 use values::head::Parameters;
 ghost use Prim.Native.Nat.{_≤_};
 ghost use lib.ListN.{length};
-ghost use Rattle.columns.specs.Columns.{columnsOf};
-ghost use Rattle.sale.specs.Sale.{SomeStand, ClearsColumns};
+ghost use Rattle.columns.specs.inner.Columns.{columnsOf};
+ghost use Rattle.sale.specs.inner.Sale.{SomeStand, ClearsColumns};
 
 // What n rows clear under parameters, with each row's cleared and committed tenths: the clearing of whatever contents stand in
 // the columns.

@@ -7,10 +7,10 @@ use shares::share_out;
 ghost use Prim.Native.Nat.{_≤_};
 ghost use lib.ListN.{length};
 ghost use Rattle.curve.specs.Shape.{Shaped};
-ghost use Rattle.market.specs.Rows.{RowLists};
-ghost use Rattle.columns.specs.Column.{rowsOf};
-ghost use Rattle.shares.specs.Out.{Ordered};
-ghost use Rattle.sale.specs.Sale.{SoldColumns};
+ghost use Rattle.market.specs.inner.Rows.{RowLists};
+ghost use Rattle.columns.specs.inner.Column.{rowsOf};
+ghost use Rattle.shares.specs.inner.Out.{Ordered};
+ghost use Rattle.sale.specs.inner.Sale.{SoldColumns};
 
 // The total and the price of a sale.
 pub struct Sale {

@@ -12,11 +12,11 @@ use Rattle.laws.specs.Sum.{sumTo}
 use Rattle.laws.proofs.Cases.{by-equality}
 use Rattle.laws.proofs.Sums.{sumTo-mul, sumTo-none}
 use Rattle.auction.specs.Settlement.{committed, mills}
-use Rattle.values.specs.Values.{leastOf}
+use Rattle.values.specs.inner.Values.{leastOf}
 use Rattle.values.specs.declared.Value.{Value}
 use Rattle.values.specs.declared.Value.the-variants.{Given, Missing}
 use Rattle.settle.specs.Read.{optional}
-use Rattle.settle.specs.Rows.{committedFrom}
+use Rattle.settle.specs.inner.Rows.{committedFrom}
 
 pub from-nothing : (least c : ℕ) → c ≡ 0 → 0 ≡ committedFrom least c
 unfolding committedFrom

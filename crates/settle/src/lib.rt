@@ -6,8 +6,8 @@ ghost use lib.ListN.{length};
 ghost use Rattle.laws.specs.Filled.{filled};
 ghost use Rattle.laws.specs.Sum.{sumTo};
 ghost use Rattle.auction.specs.Settlement.{mills};
-ghost use Rattle.settle.specs.Read.{quoted};
-ghost use Rattle.settle.specs.Rows.{committedFrom, Committable, rowCommits, rowPast};
+ghost use Rattle.settle.specs.inner.Read.{quoted};
+ghost use Rattle.settle.specs.inner.Rows.{committedFrom, Committable, rowCommits, rowPast};
 
 // The cleared quantity, or the least that the row commits if that is larger and the cleared quantity is not 0.
 fn committed_of(least: u32, cleared: u32) -> u32

@@ -19,13 +19,13 @@ use Rattle.laws.proofs.Counts.{countWhere-within}
 use Rattle.laws.proofs.Keys.{thenBy-rest, thenBy-halves}
 use Rattle.auction.specs.Offers.{Offers}
 use Rattle.auction.specs.Shares.{weighted, shareDown, remainder, spareTenths, ahead, rank, cleared}
-use Rattle.columns.specs.Column.{rowsOf}
+use Rattle.columns.specs.inner.Column.{rowsOf}
 use Rattle.market.specs.declared.level.Level.{Level}
-use Rattle.contest.specs.Contest.{wins, contenders, inOrder}
+use Rattle.contest.specs.inner.Contest.{wins, contenders, inOrder}
 use Rattle.contest.proofs.Winning.{wins-contenders}
-use Rattle.shares.specs.Parts.{keyOf, rowKey}
-use Rattle.shares.specs.Halves.{highHalf, lowHalf}
-use Rattle.shares.specs.Steps.{Stopped}
+use Rattle.shares.specs.inner.Parts.{keyOf, rowKey}
+use Rattle.shares.specs.inner.Halves.{highHalf, lowHalf}
+use Rattle.shares.specs.inner.Steps.{Stopped}
 use Rattle.shares.proofs.RowParts.{key-at}
 use Rattle.shares.proofs.Sharing.{stop-some, spares-away, cleared-down}
 

@@ -11,7 +11,7 @@ use lib.Seq.{ext-getD}
 use Rattle.laws.proofs.Cases.{by-order}
 use Rattle.auction.specs.Offers.{Offers}
 use Rattle.market.specs.declared.level.Level.{Level}
-use Rattle.shares.specs.Out.{SharedOut}
+use Rattle.shares.specs.inner.Out.{SharedOut}
 use Rattle.shares.proofs.share_out.Reads as share-out
 
 shared-alone : (o : Offers) (x : ℕ) (before after other : List ℕ) → SharedOut o x before after → SharedOut o x before other

@@ -16,11 +16,12 @@ use Rattle.auction.specs.Offers.{Offers, supply, supplyBelow, levelSum}
 use Rattle.auction.specs.Shares.{levelAmount}
 use Rattle.auction.proofs.LevelDivision.{levelAmount-most}
 use Rattle.market.specs.declared.level.Level.{Level}
-use Rattle.columns.specs.Column.{rowsOf}
-use Rattle.market.specs.Rows.{RowLists, listed}
-use Rattle.market.specs.Stop.{StopsAt, stopLevel}
-use Rattle.shares.specs.Out.{Ordered}
-use Rattle.shares.specs.Steps.{Stopped, DividesRows}
+use Rattle.columns.specs.inner.Column.{rowsOf}
+use Rattle.market.specs.inner.Rows.{RowLists, listed}
+use Rattle.market.specs.Stop.{stopLevel}
+use Rattle.market.specs.inner.Stop.{StopsAt}
+use Rattle.shares.specs.inner.Out.{Ordered}
+use Rattle.shares.specs.inner.Steps.{Stopped, DividesRows}
 use Rattle.shares.proofs.Sharing.{stop-some}
 
 -- the level at which a total stops holds the total

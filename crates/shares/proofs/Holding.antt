@@ -17,9 +17,9 @@ use Rattle.auction.specs.Offers.{Offers, levelSum}
 use Rattle.auction.specs.Shares.{levelAmount, shareDown, spareTenths}
 use Rattle.auction.proofs.Spares.{spares-rest}
 use Rattle.market.specs.declared.level.Level.{Level}
-use Rattle.columns.specs.Column.{rowsOf}
-use Rattle.market.specs.Rows.{RowLists, listed}
-use Rattle.shares.specs.Steps.{Stopped, DividesRows, HoldsParts}
+use Rattle.columns.specs.inner.Column.{rowsOf}
+use Rattle.market.specs.inner.Rows.{RowLists, listed}
+use Rattle.shares.specs.inner.Steps.{Stopped, DividesRows, HoldsParts}
 use Rattle.shares.proofs.RowParts.{part-most}
 use Rattle.shares.proofs.Sharing.{downs, part-share}
 

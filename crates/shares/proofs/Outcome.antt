@@ -12,9 +12,9 @@ use Rattle.laws.proofs.FilledRows.{filled-row, filled-past, filled-is}
 use Rattle.auction.specs.Offers.{Offers}
 use Rattle.auction.specs.Shares.{spareTenths, cleared}
 use Rattle.market.specs.declared.level.Level.{Level}
-use Rattle.shares.specs.Out.{SharedOut}
-use Rattle.shares.specs.Parts.{partOf}
-use Rattle.shares.specs.Steps.{Stopped}
+use Rattle.shares.specs.inner.Out.{SharedOut}
+use Rattle.shares.specs.inner.Parts.{partOf}
+use Rattle.shares.specs.inner.Steps.{Stopped}
 use Rattle.shares.proofs.Sharing.{part-cleared}
 
 -- where nothing is spare at the stop, parts that fill a list are shared out

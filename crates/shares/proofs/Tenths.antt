@@ -11,13 +11,13 @@ use Rattle.laws.specs.Filled.{filled}
 use Rattle.laws.proofs.Fills.{filled-ext}
 use Rattle.auction.specs.Offers.{Offers}
 use Rattle.auction.specs.Shares.{cleared}
-use Rattle.columns.specs.Column.{rowsOf}
+use Rattle.columns.specs.inner.Column.{rowsOf}
 use Rattle.market.specs.declared.level.Level.{Level}
-use Rattle.contest.specs.Contest.{wins, contenders, inOrder}
-use Rattle.contest.specs.Award.{Awarded}
-use Rattle.shares.specs.Parts.{rowKey, rowStanding}
-use Rattle.shares.specs.Halves.{highHalf, lowHalf}
-use Rattle.shares.specs.Steps.{SparesDue, Adds}
+use Rattle.contest.specs.inner.Contest.{wins, contenders, inOrder}
+use Rattle.contest.specs.inner.Award.{Awarded}
+use Rattle.shares.specs.inner.Parts.{rowKey, rowStanding}
+use Rattle.shares.specs.inner.Halves.{highHalf, lowHalf}
+use Rattle.shares.specs.inner.Steps.{SparesDue, Adds}
 use Rattle.shares.proofs.Sharing.{part-share}
 use Rattle.shares.proofs.Holding.{parts-rows}
 use Rattle.shares.proofs.Contending.{cleared-won}

@@ -1,4 +1,1 @@
-pub mod Out
-pub mod Parts
-pub mod Steps
-pub mod Halves
+pub mod inner

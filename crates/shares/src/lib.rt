@@ -11,10 +11,10 @@ ghost use mathlib.Core.Path.{_≡_};
 ghost use Prim.Native.Nat.{_≤_};
 ghost use lib.ListN.{length};
 ghost use Rattle.auction.specs.Offers.{levelSum};
-ghost use Rattle.columns.specs.Column.{rowsOf};
-ghost use Rattle.market.specs.Rows.{RowLists, listed};
-ghost use Rattle.market.specs.Stop.{StopsAt};
-ghost use Rattle.shares.specs.Out.{SharedOut, Ordered};
+ghost use Rattle.columns.specs.inner.Column.{rowsOf};
+ghost use Rattle.market.specs.inner.Rows.{RowLists, listed};
+ghost use Rattle.market.specs.inner.Stop.{StopsAt};
+ghost use Rattle.shares.specs.inner.Out.{SharedOut, Ordered};
 
 // What the rows at a price hold together.
 fn held_at(prices: &[u32], shares: &[u32], n: usize, price: u32) -> u32

@@ -9,10 +9,10 @@ ghost use lib.ListN.{length, getD};
 ghost use lib.Dec.{eqb};
 ghost use Rattle.laws.specs.Filled.{filled};
 ghost use Rattle.auction.specs.Shares.{cleared};
-ghost use Rattle.columns.specs.Column.{rowsOf};
-ghost use Rattle.shares.specs.Halves.{highHalf, lowHalf};
-ghost use Rattle.shares.specs.Parts.{partOf, keyOf, rowKey, rowStanding};
-ghost use Rattle.shares.specs.Steps.{Divides, DividesRows, HoldsParts, SparesDue, Adds};
+ghost use Rattle.columns.specs.inner.Column.{rowsOf};
+ghost use Rattle.shares.specs.inner.Halves.{highHalf, lowHalf};
+ghost use Rattle.shares.specs.inner.Parts.{partOf, keyOf, rowKey, rowStanding};
+ghost use Rattle.shares.specs.inner.Steps.{Divides, DividesRows, HoldsParts, SparesDue, Adds};
 
 // A row's key in the order of spare tenths: the lower the more rounding down left, 0 away from the level.
 fn key(price: u32, quantity: u32, share: u32, level: Level) -> u32

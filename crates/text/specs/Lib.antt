@@ -1,2 +1,3 @@
 pub mod Put
 pub mod Number
+pub mod inner

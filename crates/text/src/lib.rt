@@ -12,7 +12,8 @@ pub use number::put_number;
 use numbers::excess_size;
 use numbers::lesser_size;
 ghost use mathlib.Core.List.{[], _∷_};
-ghost use Rattle.text.specs.Put.{Written, rightText};
+ghost use Rattle.text.specs.Put.{Written};
+ghost use Rattle.text.specs.inner.Put.{rightText};
 
 // Puts bytes.
 pub fn put_bytes(out: &mut [u8], at: usize, bytes: &[u8]) -> usize

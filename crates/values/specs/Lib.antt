@@ -3,3 +3,4 @@ pub mod Head
 pub mod Place
 pub mod Refusals
 pub mod Contents
+pub mod inner

@@ -24,9 +24,3 @@ absentIsZero mark number = mark || eqb number 0
 abbrev pub held : Value → ℕ
 held (Given number) = number
 held Missing = 4294967295
-
--- The least that an offer with this minimum block commits, once any of it clears: the block, or, where it is flexible, the
--- least that clears at all.
-abbrev pub leastOf : Value → ℕ
-leastOf (Given tenths) = tenths
-leastOf Missing = 1

@@ -9,7 +9,8 @@ ghost use Prim.Native.Nat.{_+_, _/_, _%_, _≤_, _<_};
 ghost use lib.ListN.{length};
 ghost use lib.Dec.{eqb};
 ghost use Rattle.block.specs.Bytes.{u32At};
-ghost use Rattle.values.specs.Values.{valueOf, held, leastOf};
+ghost use Rattle.values.specs.Values.{valueOf, held};
+ghost use Rattle.values.specs.inner.Values.{leastOf};
 ghost use Rattle.values.specs.Refusals.{andThen};
 
 // A value that the book can leave out. What is missing is no number.

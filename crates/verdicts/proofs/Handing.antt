@@ -16,7 +16,7 @@ use Rattle.values.specs.declared.Verdict.the-variants.{Passed, Refused}
 use Rattle.layout.specs.Form.{formFault, offerCount, ownBytes}
 use Rattle.layout.proofs.Handed.{row-part-refused, row-part-past, row-part-length}
 use Rattle.layout.proofs.Passing.{form-passed-count}
-use Rattle.verdicts.specs.Handed.{rowsHanded}
+use Rattle.verdicts.specs.inner.Handed.{rowsHanded}
 
 module _ (b : List ℕ) (row : ℕ) where
   part-there : (v : Verdict) → formFault b ≡ v → row < rowsHanded v (offerCount b) → length (ownBytes b row) ≡ 32

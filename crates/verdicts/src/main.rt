@@ -8,7 +8,7 @@ use libc::STDOUT_FILENO;
 use values::Verdict;
 ghost use mathlib.Core.Path.{_≡_};
 ghost use Rattle.layout.specs.Form.{formFault, offerCount};
-ghost use Rattle.verdicts.specs.Handed.{rowsHanded};
+ghost use Rattle.verdicts.specs.inner.Handed.{rowsHanded};
 
 // How many rows the reader hands back, from row 0 on until the first empty part: all that the book states, and none of one
 // that is refused by 1 to 3.

@@ -14,7 +14,8 @@ use Rattle.laws.proofs.Cases.{cond-true, cond-false}
 use Rattle.auction.specs.Offers.{Offers, supply, supplyBelow, levelSum}
 use Rattle.auction.specs.Shares.{levelAmount, weighted, shareDown, remainder}
 use Rattle.auction.proofs.Supply.{supply-split, supplyBelow-supply}
-use Rattle.workings.specs.Share.{LevelAt, shareAt, rowShareAt}
+use Rattle.workings.specs.Share.{shareAt, rowShareAt}
+use Rattle.workings.specs.inner.Share.{LevelAt}
 use Rattle.workings.specs.declared.share.Received.{Received}
 use Rattle.workings.specs.declared.share.Share.{Share}
 use Rattle.workings.specs.declared.share.RowShare.the-variants.{Shares, NoRow}

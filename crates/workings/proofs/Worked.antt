@@ -21,16 +21,16 @@ use Rattle.layout.specs.Read.{rowOffers}
 use Rattle.layout.proofs.Contained.{length-rowOffers, contents-count}
 use Rattle.curve.specs.Price.{demandOf}
 use Rattle.curve.specs.declared.Curve.{Curve}
-use Rattle.market.specs.Rows.{listed}
+use Rattle.market.specs.inner.Rows.{listed}
 use Rattle.market.specs.Stop.{stopLevel}
-use Rattle.columns.specs.Column.{rowsOf}
-use Rattle.columns.specs.Columns.{Columns}
+use Rattle.columns.specs.inner.Column.{rowsOf}
+use Rattle.columns.specs.inner.Columns.{Columns}
 use Rattle.book.specs.Faults.{firstFault}
-use Rattle.book.specs.Opening.{beforeRows, Opened}
+use Rattle.book.specs.inner.Opening.{beforeRows, Opened}
 use Rattle.book.proofs.Stages.{rows-own, first-before}
 use Rattle.region.specs.Region.{regionCurve}
 use Rattle.sale.specs.Auction.{offersOf}
-use Rattle.sale.specs.Sale.{Stands}
+use Rattle.sale.specs.inner.Sale.{Stands}
 use Rattle.sale.proofs.Sales.{columns-offers}
 use Rattle.workings.specs.Stop.{levelAt, tenthAt, nextAt, stopAt}
 use Rattle.workings.specs.Share.{shareAt, rowShareAt}

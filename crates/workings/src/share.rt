@@ -6,8 +6,9 @@ use numbers::lesser;
 ghost use mathlib.Core.Path.{_≡_};
 ghost use Prim.Native.Nat.{_<_};
 ghost use lib.ListN.{getD};
-ghost use Rattle.market.specs.Rows.{RowLists, listed};
-ghost use Rattle.workings.specs.Share.{Positive, LevelAt, shareAt, rowShareAt};
+ghost use Rattle.market.specs.inner.Rows.{RowLists, listed};
+ghost use Rattle.workings.specs.Share.{shareAt, rowShareAt};
+ghost use Rattle.workings.specs.inner.Share.{Positive, LevelAt};
 
 // What a row's level receives and offers in all, its exact part of that rounded down, and what rounding down leaves: the
 // part is (quantity times amount) over sum, and the remainder is over sum too.

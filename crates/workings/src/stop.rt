@@ -8,7 +8,7 @@ use units::CentsPerMwDay;
 ghost use mathlib.Core.Path.{_≡_};
 ghost use Prim.Native.Nat.{_≤_};
 ghost use Rattle.curve.specs.Shape.{Shaped};
-ghost use Rattle.market.specs.Rows.{RowLists, listed};
+ghost use Rattle.market.specs.inner.Rows.{RowLists, listed};
 ghost use Rattle.workings.specs.Stop.{tenthAt, nextAt, stopAt};
 
 // A tenth of a megawatt: the curve price there, and everything offered at that price or below.

@@ -12,11 +12,11 @@ use values::head::Parameters;
 ghost use mathlib.Core.Path.{_≡_};
 ghost use Rattle.limits.specs.Ranges.{Ranged};
 ghost use Rattle.region.specs.Region.{regionCurve};
-ghost use Rattle.market.specs.Rows.{RowLists, listed};
+ghost use Rattle.market.specs.inner.Rows.{RowLists, listed};
 ghost use Rattle.layout.specs.Read.{contentsOf};
 ghost use Rattle.book.specs.Faults.{firstFault};
-ghost use Rattle.book.specs.Opening.{Opened};
-ghost use Rattle.workings.specs.Share.{Positive};
+ghost use Rattle.book.specs.inner.Opening.{Opened};
+ghost use Rattle.workings.specs.inner.Share.{Positive};
 ghost use Rattle.workings.specs.Works.{worksAt, worksOf, workedBy};
 
 // Where the total stops, and the share of one row.

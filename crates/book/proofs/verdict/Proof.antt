@@ -5,9 +5,9 @@ use borrow.Author.Needs.{needs}
 use Rattle.values.specs.declared.Verdict.the-variants.{Passed}
 use Rattle.values.proofs.Firsts.{andThen-next, andThen-refused}
 use Rattle.layout.specs.Form.{offerCount}
-use Rattle.layout.specs.Read.{Inside}
+use Rattle.layout.specs.inner.Read.{Inside}
 use Rattle.layout.proofs.Contained.{contents-count}
-use Rattle.book.specs.Opening.{beforeRows}
+use Rattle.book.specs.inner.Opening.{beforeRows}
 use Rattle.book.proofs.Stages.{first-before, before-length, before-form, form-inside, rows-own}
 use Rattle.book.proofs.verdict.Statement.{statement}
 use Rattle.book.proofs.verdict.Tie as tie

@@ -9,7 +9,7 @@ use Rattle.laws.specs.Filled.{filled}
 use Rattle.laws.proofs.Fills.{filled-none, filled-more}
 use Rattle.laws.proofs.Filling.{filled-all, length-filling}
 use Rattle.laws.proofs.FilledRows.{filled-past}
-use Rattle.contest.specs.Sieve.{standsAfter}
+use Rattle.contest.specs.inner.Sieve.{standsAfter}
 use Rattle.contest.proofs.hold.Statement.{statement}
 use Rattle.contest.proofs.hold.Tie as tie
 

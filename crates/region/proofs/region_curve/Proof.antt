@@ -2,7 +2,7 @@
 -- Assumes nothing.
 use mathlib.Core.Path.{sym, ap, subst, _∙_}
 use borrow.Author.Needs.{needs}
-use Rattle.curve.specs.Points.{InRange}
+use Rattle.curve.specs.inner.Points.{InRange}
 use Rattle.curve.specs.Shape.{curve2026}
 use Rattle.region.specs.Region.{regionCurve}
 use Rattle.region.proofs.Regions.{terms-in-range}

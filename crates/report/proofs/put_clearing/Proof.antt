@@ -2,10 +2,10 @@
 -- Assumes nothing.
 use mathlib.Core.Path.{sym, subst}
 use Prim.Native.Nat.{_≤_}
-use Rattle.layout.specs.Read.{Inside}
+use Rattle.layout.specs.inner.Read.{Inside}
 use Rattle.layout.proofs.Passing.{form-passed-length}
 use Rattle.book.proofs.Accepted.{accepted-form, accepted-inside}
-use Rattle.report.specs.Report.{soldText}
+use Rattle.report.specs.inner.Report.{soldText}
 use Rattle.report.proofs.Fitting.{fitted-length, fitted-append, rows-counted}
 use native.Mathlib.Omega.{arith}
 use borrow.Author.Needs.{needs}

@@ -3,9 +3,9 @@
 use mathlib.Core.Path.{_≡_}
 use Prim.Native.Nat.{_+_, _-_, _*_, _≤_}
 use lib.ListN.{length}
-use Rattle.settle.specs.Read.{quoted}
+use Rattle.settle.specs.inner.Read.{quoted}
 use Rattle.report.specs.Lines.{rowsText, Fitted}
-use Rattle.report.specs.Report.{soldLine}
+use Rattle.report.specs.inner.Report.{soldLine}
 use Rattle.report.proofs.Fitting.{rows-none, rows-more, rows-counted}
 use native.Mathlib.Omega.{arith}
 use borrow.Author.Needs.{needs}

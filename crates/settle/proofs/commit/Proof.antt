@@ -11,7 +11,7 @@ use Rattle.laws.specs.Sum.{sumTo}
 use Rattle.laws.proofs.Fills.{filled-none, filled-more}
 use Rattle.laws.proofs.Filling.{length-filling, in-filling, filled-all}
 use Rattle.laws.proofs.Loops.{added-none, added-more}
-use Rattle.settle.specs.Rows.{rowCommits, rowPast}
+use Rattle.settle.specs.inner.Rows.{rowCommits, rowPast}
 use Rattle.settle.proofs.commit.Statement.{statement}
 use Rattle.settle.proofs.commit.Tie as tie
 

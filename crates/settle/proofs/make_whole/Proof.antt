@@ -3,7 +3,7 @@
 use mathlib.Core.Path.{_≡_, _∙_, ap}
 use Prim.Native.Nat.{_-_}
 use Rattle.auction.specs.Settlement.{mills}
-use Rattle.settle.specs.Read.{quoted}
+use Rattle.settle.specs.inner.Read.{quoted}
 use native.Mathlib.Omega.{arith}
 use borrow.Author.Needs.{needs}
 use Rattle.settle.proofs.make_whole.Statement.{statement}

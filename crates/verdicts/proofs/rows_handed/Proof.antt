@@ -6,7 +6,7 @@ use native.Mathlib.Omega.{arith}
 use lib.ListN.{length}
 use borrow.Author.Needs.{needs}
 use Rattle.layout.specs.Form.{formFault, offerCount}
-use Rattle.verdicts.specs.Handed.{rowsHanded}
+use Rattle.verdicts.specs.inner.Handed.{rowsHanded}
 use Rattle.verdicts.proofs.Handing.{handed-empty, handed-more, handed-few}
 use Rattle.verdicts.proofs.rows_handed.Statement.{statement}
 use Rattle.verdicts.proofs.rows_handed.Tie as tie

@@ -11,8 +11,8 @@ use Rattle.limits.specs.Offers.{offerFault}
 use Rattle.values.specs.Contents.{offerAt}
 use Rattle.layout.specs.Read.{rowOffers}
 use Rattle.layout.proofs.Contained.{offer-of-row}
-use Rattle.columns.specs.Columns.{columnsOf}
-use Rattle.book.specs.Rows.{ValuesRead}
+use Rattle.columns.specs.inner.Columns.{columnsOf}
+use Rattle.book.specs.inner.Rows.{ValuesRead}
 use Rattle.book.proofs.Values.{values-none, values-more, values-refused, values-end}
 use Rattle.book.proofs.rows.values_fault.Statement.{statement}
 use Rattle.book.proofs.rows.values_fault.Tie as tie

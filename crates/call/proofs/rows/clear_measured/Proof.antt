@@ -2,7 +2,7 @@
 -- Assumes nothing.
 use mathlib.Core.Path.{sym, _∙_}
 use borrow.Author.Needs.{needs}
-use Rattle.book.specs.Opening.{Opened}
+use Rattle.book.specs.inner.Opening.{Opened}
 use Rattle.call.proofs.Calls.{fault-before, outcome-refused}
 use Rattle.call.proofs.rows.clear_measured.Statement.{statement}
 use Rattle.call.proofs.rows.clear_measured.Tie as tie

@@ -7,9 +7,9 @@ use borrow.Author.Needs.{needs}
 use Rattle.values.specs.declared.Verdict.the-variants.{Passed}
 use Rattle.values.proofs.Firsts.{andThen-left}
 use Rattle.layout.specs.Read.{contentsOf}
-use Rattle.columns.specs.Columns.{Columns, columnsOf}
+use Rattle.columns.specs.inner.Columns.{Columns, columnsOf}
 use Rattle.columns.proofs.Offers.{blank-room}
-use Rattle.sale.specs.Sale.{Stands}
+use Rattle.sale.specs.inner.Sale.{Stands}
 use Rattle.call.specs.Answer.{callFault}
 use Rattle.call.proofs.Calls.{opened-inside, opened-stands, fault-rows, Callable, passed-callable, outcome-refused, outcome-cleared}
 use Rattle.call.proofs.rows.clear_rows.Statement.{statement}

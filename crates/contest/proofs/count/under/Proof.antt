@@ -6,8 +6,8 @@ use native.Mathlib.Omega.{arith}
 use borrow.Author.Needs.{needs}
 use Rattle.laws.specs.Sum.{sumWhere, countWhere}
 use Rattle.laws.proofs.Loops.{added-none, added-more}
-use Rattle.contest.specs.Contest.{contenders}
-use Rattle.contest.specs.Sieve.{countUnder, keyAt}
+use Rattle.contest.specs.inner.Contest.{contenders}
+use Rattle.contest.specs.inner.Sieve.{countUnder, keyAt}
 use Rattle.contest.proofs.count.under.Statement.{statement}
 use Rattle.contest.proofs.count.under.Tie as tie
 

@@ -4,8 +4,8 @@ use Prim.Native.Nat.{_≤_, _-_}
 use native.Mathlib.Omega.{arith}
 use borrow.Author.Needs.{needs}
 use borrow.Author.Count.{below-none, below-more}
-use Rattle.contest.specs.Sieve.{keyAt}
-use Rattle.contest.specs.Nearest.{HighestTo}
+use Rattle.contest.specs.inner.Sieve.{keyAt}
+use Rattle.contest.specs.inner.Nearest.{HighestTo}
 use Rattle.contest.proofs.keys.highest_to.Statement.{statement}
 use Rattle.contest.proofs.keys.highest_to.Tie as tie
 

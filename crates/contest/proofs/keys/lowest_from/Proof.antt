@@ -4,8 +4,8 @@ use Prim.Native.Nat.{_≤_, _-_}
 use native.Mathlib.Omega.{arith}
 use borrow.Author.Needs.{needs}
 use borrow.Author.Count.{below-none, below-more}
-use Rattle.contest.specs.Sieve.{keyAt}
-use Rattle.contest.specs.Nearest.{LowestFrom}
+use Rattle.contest.specs.inner.Sieve.{keyAt}
+use Rattle.contest.specs.inner.Nearest.{LowestFrom}
 use Rattle.contest.proofs.keys.lowest_from.Statement.{statement}
 use Rattle.contest.proofs.keys.lowest_from.Tie as tie
 

@@ -3,9 +3,9 @@
 use Prim.Native.Nat.{_+_}
 use native.Mathlib.Omega.{arith}
 use borrow.Author.Needs.{needs}
-use Rattle.contest.specs.Contest.{contenders}
-use Rattle.contest.specs.Sieve.{keyAt}
-use Rattle.contest.specs.Search.{Between}
+use Rattle.contest.specs.inner.Contest.{contenders}
+use Rattle.contest.specs.inner.Sieve.{keyAt}
+use Rattle.contest.specs.inner.Search.{Between}
 use Rattle.contest.proofs.Closing.{moved-down}
 use Rattle.contest.proofs.limit.lower.Statement.{statement}
 use Rattle.contest.proofs.limit.lower.Tie as tie

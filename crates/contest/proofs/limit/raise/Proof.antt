@@ -2,9 +2,9 @@
 -- Assumes nothing.
 use native.Mathlib.Omega.{arith}
 use borrow.Author.Needs.{needs}
-use Rattle.contest.specs.Contest.{contenders}
-use Rattle.contest.specs.Sieve.{keyAt}
-use Rattle.contest.specs.Search.{Between}
+use Rattle.contest.specs.inner.Contest.{contenders}
+use Rattle.contest.specs.inner.Sieve.{keyAt}
+use Rattle.contest.specs.inner.Search.{Between}
 use Rattle.contest.proofs.Closing.{moved-up}
 use Rattle.contest.proofs.limit.raise.Statement.{statement}
 use Rattle.contest.proofs.limit.raise.Tie as tie

@@ -5,9 +5,9 @@ use Prim.Native.Nat.{_-_}
 use native.Mathlib.Omega.{arith}
 use borrow.Author.Needs.{needs}
 use borrow.Author.Tests.{ltb-true, ltb-false}
-use Rattle.contest.specs.Contest.{contenders}
-use Rattle.contest.specs.Sieve.{keyAt}
-use Rattle.contest.specs.Search.{Between}
+use Rattle.contest.specs.inner.Contest.{contenders}
+use Rattle.contest.specs.inner.Sieve.{keyAt}
+use Rattle.contest.specs.inner.Search.{Between}
 use Rattle.contest.proofs.Parting.{parts-top}
 use Rattle.contest.proofs.Closing.{begun, found-exact, found-next}
 use Rattle.contest.proofs.limit.threshold.Statement.{statement}

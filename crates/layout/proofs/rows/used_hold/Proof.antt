@@ -11,7 +11,7 @@ use Rattle.laws.proofs.Ways.{place-held, place-failed, places-held}
 use Rattle.layout.proofs.Parts.{place-part}
 use Rattle.laws.specs.Sum.{every}
 use Rattle.layout.specs.Blocks.{placeOf}
-use Rattle.layout.specs.Section.{usedOnly}
+use Rattle.layout.specs.inner.Section.{usedOnly}
 use Rattle.layout.proofs.rows.used_hold.Statement.{statement}
 use Rattle.layout.proofs.rows.used_hold.Tie as tie
 

@@ -4,7 +4,7 @@ use mathlib.Core.Path.{sym, ap, _∙_}
 use mathlib.Core.Bool.{Bool}
 use borrow.Author.Needs.{needs}
 use borrow.Author.Tests.{not-true, not-false}
-use Rattle.layout.specs.Section.{usedOnly}
+use Rattle.layout.specs.inner.Section.{usedOnly}
 use Rattle.layout.proofs.rows.used_only.Statement.{statement}
 use Rattle.layout.proofs.rows.used_only.Tie as tie
 

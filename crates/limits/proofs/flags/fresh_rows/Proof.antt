@@ -11,7 +11,7 @@ use borrow.Author.Needs.{needs}
 use borrow.Author.Tests.{not-false}
 use Rattle.laws.specs.Sum.{every}
 use Rattle.laws.proofs.Everys.{every-zero}
-use Rattle.limits.specs.Flags.{flagOfSum, flagOfProduct}
+use Rattle.limits.specs.inner.Flags.{flagOfSum, flagOfProduct}
 use Rattle.limits.specs.Repeats.{fresh}
 use Rattle.limits.proofs.Failing.{every-more}
 use Rattle.limits.proofs.Flagged.{Flagged, flagged-none, flagged-kept, flagged-more, unmet-fresh, by-unset}

@@ -2,8 +2,8 @@
 -- Assumes nothing.
 use Prim.Native.Nat.{_-_, _≤_}
 use Rattle.curve.specs.Price.{demandOf}
-use Rattle.market.specs.Bracket.{Under}
-use Rattle.market.specs.Rows.{listed}
+use Rattle.market.specs.inner.Bracket.{Under}
+use Rattle.market.specs.inner.Rows.{listed}
 use Rattle.market.proofs.Narrowing.{under-lowered}
 use native.Mathlib.Omega.{arith}
 use borrow.Author.Needs.{needs}

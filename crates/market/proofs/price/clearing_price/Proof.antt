@@ -7,7 +7,7 @@ use borrow.Author.Needs.{needs}
 use borrow.Author.Tests.{eq-eqb, ne-eqb, lt-ltb, le-ltb}
 use Rattle.auction.specs.Offers.{Demand}
 use Rattle.curve.specs.Price.{demandOf}
-use Rattle.market.specs.Price.{priceAt}
+use Rattle.market.specs.inner.Price.{priceAt}
 use Rattle.market.specs.declared.level.Level.{Level}
 use Rattle.market.specs.declared.price.ClearingPrice.the-variants.{Price}
 use Rattle.market.proofs.price.clearing_price.Statement.{statement}

@@ -10,8 +10,8 @@ use borrow.Author.Tests.{eqb-true, eqb-false}
 use Rattle.auction.specs.Offers.{Offers, supplyBelow}
 use Rattle.curve.specs.Price.{demandOf, tenthPrice}
 use Rattle.curve.proofs.Prices.{curve-falls, price-most}
-use Rattle.market.specs.Bracket.{Under}
-use Rattle.market.specs.Rows.{listed}
+use Rattle.market.specs.inner.Bracket.{Under}
+use Rattle.market.specs.inner.Rows.{listed}
 use Rattle.market.proofs.Narrowing.{under-whole, below-next}
 use Rattle.market.proofs.Stopping.{below-upto, reached-all, reached-stops}
 use Rattle.market.proofs.total.cleared_level.Statement.{statement}

@@ -2,7 +2,7 @@
 -- Assumes nothing.
 use Prim.Native.Nat.{_-_}
 use Rattle.curve.specs.Price.{demandOf}
-use Rattle.market.specs.Bracket.{Reaches}
+use Rattle.market.specs.inner.Bracket.{Reaches}
 use Rattle.market.proofs.Narrowing.{reaches-under, reaches-met}
 use native.Mathlib.Omega.{arith}
 use borrow.Author.Needs.{needs}

@@ -11,9 +11,9 @@ use borrow.Author.Needs.{needs}
 use Rattle.auction.specs.Settlement.{mills}
 use Rattle.limits.specs.Ranges.{Ranged}
 use Rattle.values.specs.Contents.{Contents}
-use Rattle.columns.specs.Columns.{Columns, columnsOf}
-use Rattle.settle.specs.Read.{quoted}
-use Rattle.sale.specs.Sale.{Stands}
+use Rattle.columns.specs.inner.Columns.{Columns, columnsOf}
+use Rattle.settle.specs.inner.Read.{quoted}
+use Rattle.sale.specs.inner.Sale.{Stands}
 use Rattle.sale.proofs.Sales.{columns-rows, columns-ordered}
 use Rattle.sale.proofs.SaleLaws.{SoldAs, sold-contents}
 use Rattle.sale.proofs.Payments.{cleared-committable, committed-list, mills-most, whole-most, whole-paid, clearing-is}

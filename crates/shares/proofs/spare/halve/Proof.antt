@@ -9,7 +9,7 @@ use borrow.Author.Needs.{needs}
 use Rattle.laws.specs.Filled.{filled}
 use Rattle.laws.proofs.Fills.{filled-none, filled-more}
 use Rattle.laws.proofs.Filling.{length-filling, filled-all}
-use Rattle.shares.specs.Halves.{highHalf, lowHalf}
+use Rattle.shares.specs.inner.Halves.{highHalf, lowHalf}
 use Rattle.shares.proofs.spare.halve.Statement.{statement}
 use Rattle.shares.proofs.spare.halve.Tie as tie
 

@@ -5,7 +5,7 @@ use native.Mathlib.Nat.{le-refl}
 use native.Mathlib.Omega.{arith}
 use lib.ListN.{take}
 use borrow.Author.Needs.{needs}
-use Rattle.text.specs.Number.{decimalText}
+use Rattle.text.specs.inner.Number.{decimalText}
 use Rattle.text.proofs.Numbers.{decimal-parts}
 use Rattle.text.proofs.number.put_decimal.Statement.{statement}
 use Rattle.text.proofs.number.put_decimal.Tie as tie

@@ -5,10 +5,10 @@ use borrow.Author.Needs.{needs}
 use Rattle.values.specs.declared.Verdict.the-variants.{Passed}
 use Rattle.limits.specs.Ranges.{Ranged}
 use Rattle.layout.specs.Read.{contentsOf}
-use Rattle.columns.specs.Columns.{Columns, columnsOf, empty, Blank}
+use Rattle.columns.specs.inner.Columns.{Columns, columnsOf, empty, Blank}
 use Rattle.columns.proofs.Offers.{blank-room}
 use Rattle.book.specs.Faults.{firstFault}
-use Rattle.sale.specs.Sale.{Stands}
+use Rattle.sale.specs.inner.Sale.{Stands}
 use Rattle.sale.proofs.Sales.{columns-rows, columns-ordered}
 use Rattle.call.proofs.Calls.{opened-inside, opened-stands}
 use Rattle.workings.proofs.Worked.{answer-refused, answer-worked, first-rows, works-stand}

@@ -10,8 +10,8 @@ use Rattle.values.specs.declared.Verdict.{Verdict}
 use Rattle.values.specs.declared.Verdict.the-variants.{Passed, Refused}
 use Rattle.values.specs.declared.place.Offer.{Offer}
 use Rattle.limits.specs.Offers.{rowsFault}
-use Rattle.limits.specs.Rows.{valuesFault}
-use Rattle.columns.specs.Columns.{Columns, ColumnsRead}
+use Rattle.limits.specs.inner.Rows.{valuesFault}
+use Rattle.columns.specs.inner.Columns.{Columns, ColumnsRead}
 
 -- how many rows are read before the tests of values end: all n, or those up to the refused one
 abbrev pub rowsTested : Verdict → ℕ → ℕ

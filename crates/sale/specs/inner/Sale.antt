@@ -7,13 +7,13 @@ use lib.ListN.{length}
 use Rattle.values.specs.Contents.{Contents}
 use Rattle.values.specs.declared.head.Parameters.{Parameters}
 use Rattle.limits.specs.Clearable.{Clearable}
-use Rattle.columns.specs.Columns.{Columns, Listed}
+use Rattle.columns.specs.inner.Columns.{Columns, Listed}
 use Rattle.auction.specs.Offers.{Offers}
 use Rattle.auction.specs.Clearing.{clearedTotal, clearingPrice}
 use Rattle.curve.specs.Price.{demandOf}
 use Rattle.curve.specs.declared.Curve.{Curve}
 use Rattle.market.specs.Price.{asPrice}
-use Rattle.shares.specs.Out.{SharedOut}
+use Rattle.shares.specs.inner.Out.{SharedOut}
 use Rattle.sale.specs.Payment.{clearingOf, clearedList, committedList}
 use Rattle.sale.specs.declared.Clearing.{Clearing}
 use Rattle.sale.specs.declared.sell.Sale.{Sale}

@@ -6,8 +6,8 @@ use mathlib.Core.Bool.{Bool, false, cond}
 use mathlib.Core.List.{List}
 use lib.ListN.{length, getD}
 use Rattle.laws.specs.Orders.{thenBy}
-use Rattle.contest.specs.Contest.{wins, contenders, inOrder}
-use Rattle.contest.specs.Sieve.{comesOut, keyAt}
+use Rattle.contest.specs.inner.Contest.{wins, contenders, inOrder}
+use Rattle.contest.specs.inner.Sieve.{comesOut, keyAt}
 
 -- a contest with its first part told: who comes out by the whole order comes out by the rest of it, for what is left
 pub record Told (n : ℕ) (whole rest : ℕ → ℕ → Bool) (entry : List ℕ) (spare : ℕ) (exit : List ℕ) (left : ℕ) : Type 0 where

@@ -5,7 +5,7 @@ use mathlib.Core.Path.{_≡_}
 use mathlib.Core.List.{List}
 use lib.ListN.{length, replicate}
 use Rattle.values.specs.declared.place.Offer.{Offer}
-use Rattle.columns.specs.Column.{rowPrice, rowQuantity, rowLeast, rowResource, rowStamp, Column}
+use Rattle.columns.specs.inner.Column.{rowPrice, rowQuantity, rowLeast, rowResource, rowStamp, Column}
 
 -- the five lists that a book is read into
 pub record Columns : Type 0 where

@@ -5,7 +5,7 @@ use mathlib.Core.Path.{_≡_}
 use mathlib.Core.Bool.{Bool}
 use Rattle.contest.specs.declared.limit.KeyBracket.{KeyBracket}
 use Rattle.contest.specs.declared.limit.Parting.{Parting}
-use Rattle.contest.specs.Sieve.{Parts, countUnder}
+use Rattle.contest.specs.inner.Sieve.{Parts, countUnder}
 
 -- at most `spare` contend under the first, and more under the second
 pub record Between (contends : ℕ → Bool) (key : ℕ → ℕ) (n spare : ℕ) (b : KeyBracket) : Type 0 where

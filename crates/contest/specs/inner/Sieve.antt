@@ -9,7 +9,7 @@ use mathlib.Core.List.{List}
 use lib.ListN.{length, getD}
 use lib.Dec.{ltb, eqb}
 use Rattle.laws.specs.Sum.{countWhere}
-use Rattle.contest.specs.Contest.{wins, contenders}
+use Rattle.contest.specs.inner.Contest.{wins, contenders}
 
 -- a list of keys, as a function of the row
 abbrev pub keyAt : List ℕ → ℕ → ℕ

@@ -6,7 +6,8 @@ use mathlib.Core.List.{List}
 use lib.ListN.{getD}
 use Rattle.laws.specs.Filled.{filled}
 use Rattle.auction.specs.Offers.{Offers}
-use Rattle.values.specs.Values.{held, leastOf}
+use Rattle.values.specs.Values.{held}
+use Rattle.values.specs.inner.Values.{leastOf}
 use Rattle.values.specs.Contents.{offerAt}
 use Rattle.values.specs.declared.place.Offer.{Offer}
 

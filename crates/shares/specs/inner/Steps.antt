@@ -6,12 +6,12 @@ use mathlib.Core.List.{List}
 use lib.ListN.{length, getD}
 use Rattle.auction.specs.Offers.{Offers}
 use Rattle.auction.specs.Shares.{spareTenths}
-use Rattle.columns.specs.Column.{rowsOf}
-use Rattle.market.specs.Rows.{RowLists}
-use Rattle.market.specs.Stop.{StopsAt}
+use Rattle.columns.specs.inner.Column.{rowsOf}
+use Rattle.market.specs.inner.Rows.{RowLists}
+use Rattle.market.specs.inner.Stop.{StopsAt}
 use Rattle.market.specs.declared.level.Level.{Level}
-use Rattle.shares.specs.Out.{Ordered}
-use Rattle.shares.specs.Parts.{rowPart}
+use Rattle.shares.specs.inner.Out.{Ordered}
+use Rattle.shares.specs.inner.Parts.{rowPart}
 
 -- a level's numbers are in a book's range, and where the row is at its price it has something to sell
 pub record Divides (l : Level) (price quantity : ℕ) : Type 0 where

@@ -1,0 +1,2 @@
+pub mod Column
+pub mod Columns

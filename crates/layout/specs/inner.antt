@@ -1,0 +1,2 @@
+pub mod Section
+pub mod Read

@@ -1,0 +1,5 @@
+pub mod Parameters
+pub mod Repeats
+pub mod Flags
+pub mod Offers
+pub mod Rows

@@ -1,0 +1,4 @@
+pub mod Rows
+pub mod Bracket
+pub mod Stop
+pub mod Price

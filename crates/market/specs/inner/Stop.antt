@@ -1,0 +1,29 @@
+-- What the search knows of the level at which a total stops.
+-- Assumes nothing.
+use Prim.Native.Nat.{ℕ, _-_, min}
+use mathlib.Core.Path.{_≡_}
+use Rattle.auction.specs.Offers.{Offers, supply, levelSum}
+use Rattle.auction.specs.Shares.{levelAmount}
+use Rattle.market.specs.declared.level.Level.{Level}
+use Rattle.market.specs.Stop.{stopLevel}
+
+-- what is known of the level at which a total x stops
+pub record StopsAt (o : Offers) (x : ℕ) (l : Level) : Type 0 where
+  -- the total is x
+  pub total : l .total ≡ x
+  -- the level's price is the highest below which no more than x is offered
+  pub price : l .price ≡ stopLevel o x
+  -- what the level receives of x
+  pub amount : l .amount ≡ levelAmount o x (l .price)
+  -- what is offered at the level
+  pub sum : l .sum ≡ levelSum o (l .price)
+  -- what is offered at the level or below
+  pub reach : l .reach ≡ supply o (l .price)
+
+-- a level at the price p at which the total x stops, where `below` is offered strictly below p, and `upTo` at p or below
+pub record LevelBetween (x p below upTo : ℕ) (l : Level) : Type 0 where
+  pub total : l .total ≡ x
+  pub price : l .price ≡ p
+  pub amount : l .amount ≡ min (x - below) (upTo - below)
+  pub sum : l .sum ≡ upTo - below
+  pub reach : l .reach ≡ upTo

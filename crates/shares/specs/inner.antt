@@ -1,0 +1,4 @@
+pub mod Out
+pub mod Parts
+pub mod Steps
+pub mod Halves
