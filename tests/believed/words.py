@@ -91,6 +91,9 @@ class Walk:
             if found[place + 1] in OPEN:
                 return place + 1
             names = found[place + 1:end]
+            if word == "let" and ":" in names:
+                self.lets.append(names[0])
+                return place + 2 + names.index(":")
             if not all(name == "_" or is_name(name) for name in names):
                 raise Unread(f"bound after {word}: " + " ".join(names))
             if word == "λ":

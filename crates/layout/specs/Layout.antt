@@ -20,11 +20,8 @@ countFits s blocks = leb (offersIn s) 600 && eqb blocks (1 + blocksFor (offersIn
 -- bits 0 to 3 of the marks say that C, E, F, R are given, the other bits are zero, and a value not given has zero bytes
 unfoldable pub headMarksHold : List ℕ → Bool
 headMarksHold s =
-    ltb (byte s 26) 16
-    && (absentIsZero (marked (byte s 26) 0) (u32At s 8)
-    && (absentIsZero (marked (byte s 26) 1) (u32At s 12)
-    && (absentIsZero (marked (byte s 26) 2) (u32At s 16)
-    && absentIsZero (marked (byte s 26) 3) (u32At s 20))))
+    let absent : ℕ → ℕ → Bool = λ bit at. absentIsZero (marked (byte s 26) bit) (u32At s at) in
+    ltb (byte s 26) 16 && (absent 0 8 && (absent 1 12 && (absent 2 16 && absent 3 20)))
 
 -- block 0 of a book of so many blocks: the letters, edition 1, the count, the marks, and zero from byte 27 to 507
 unfoldable pub headHolds : List ℕ → ℕ → Bool

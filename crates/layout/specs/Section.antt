@@ -27,11 +27,8 @@ rowsHere rows j = min 15 (rows - j * 15)
 -- the last four bytes of a used place: 28 the marks, 29 the step, 30 what an event does, 31 zero
 unfoldable pub lastHolds : LastBytes → List ℕ → Bool
 lastHolds last p =
-    leb (byte p 28) (last .marks)
-    && (leb (byte p 29) (last .step)
-    && (leb (last .lowest) (byte p 30)
-    && (leb (byte p 30) (last .highest)
-    && eqb (byte p 31) 0)))
+    leb (byte p 28) (last .marks) && (leb (byte p 29) (last .step)
+    && (leb (last .lowest) (byte p 30) && (leb (byte p 30) (last .highest) && eqb (byte p 31) 0)))
 
 -- a used place: its last bytes follow the rule, and a value not given has zero bytes; bits 0 and 1 of the marks say that the
 -- price and the minimum block are given

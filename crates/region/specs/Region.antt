@@ -11,12 +11,9 @@ use Rattle.curve.specs.declared.Curve.{Curve}
 -- the terms that parameters with every value given state
 abbrev pub termsOf : Parameters → Terms
 termsOf p =
-    record {
-      cost = record { 0 = held (p .cost) };
-      offset = record { 0 = held (p .offset) };
-      outage = held (p .outage);
-      requirement = held (p .requirement);
-    }
+    let cost = held (p .cost) in
+    let offset = held (p .offset) in
+    record { cost = record { 0 = cost }; offset = record { 0 = offset }; outage = held (p .outage); requirement = held (p .requirement) }
 
 -- the curve: that of the delivery years from 2026 on, which are all that refusal 5 lets pass
 unfoldable pub regionCurve : Parameters → Curve

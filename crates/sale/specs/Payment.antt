@@ -13,13 +13,7 @@ use Rattle.sale.specs.declared.Clearing.{Clearing}
 -- the clearing of contents
 unfoldable pub clearingOf : Contents → Clearing
 clearingOf c =
-    record {
-      total = total c;
-      price = asPrice (price c);
-      «make_whole» = allMakeWhole c;
-      daily = dailyTotal c;
-      year = yearTotal c;
-    }
+    record { total = total c; price = asPrice (price c); «make_whole» = allMakeWhole c; daily = dailyTotal c; year = yearTotal c }
 
 -- a list with what each row clears, and one with what each commits; entries past the last row are not touched
 unfoldable pub clearedList : Contents → List ℕ → List ℕ

@@ -5,18 +5,14 @@ use Prim.Native.Nat.{ℕ}
 use mathlib.Core.List.{List}
 use Rattle.block.specs.Bytes.{byte, u16At, u32At}
 use Rattle.values.specs.Values.{marked, valueOf}
+use Rattle.values.specs.declared.Value.{Value}
 use Rattle.values.specs.declared.head.Parameters.{Parameters}
 
 -- the parameters that a block 0 holds
 unfoldable pub parametersOf : List ℕ → Parameters
 parametersOf s =
-    record {
-      year = u16At s 6;
-      cost = valueOf (marked (byte s 26) 0) (u32At s 8);
-      offset = valueOf (marked (byte s 26) 1) (u32At s 12);
-      outage = valueOf (marked (byte s 26) 2) (u32At s 16);
-      requirement = valueOf (marked (byte s 26) 3) (u32At s 20);
-    }
+    let value : ℕ → ℕ → Value = λ bit at. valueOf (marked (byte s 26) bit) (u32At s at) in
+    record { year = u16At s 6; cost = value 0 8; offset = value 1 12; outage = value 2 16; requirement = value 3 20 }
 
 -- the number of offers that a block 0 states
 unfoldable pub offersIn : List ℕ → ℕ

@@ -5,16 +5,11 @@ use Prim.Native.Nat.{ℕ}
 use mathlib.Core.List.{List}
 use Rattle.block.specs.Bytes.{byte, u32At, u64At}
 use Rattle.values.specs.Values.{marked, valueOf}
+use Rattle.values.specs.declared.Value.{Value}
 use Rattle.values.specs.declared.place.Offer.{Offer}
 
 -- the offer that a place holds
 unfoldable pub offerOf : List ℕ → Offer
 offerOf s =
-    record {
-      resource = u32At s 0;
-      seller = u32At s 4;
-      price = valueOf (marked (byte s 28) 0) (u32At s 8);
-      quantity = u32At s 12;
-      block = valueOf (marked (byte s 28) 1) (u32At s 16);
-      stamp = u64At s 20;
-    }
+    let value : ℕ → ℕ → Value = λ bit at. valueOf (marked (byte s 28) bit) (u32At s at) in
+    record { resource = u32At s 0; seller = u32At s 4; price = value 0 8; quantity = u32At s 12; block = value 1 16; stamp = u64At s 20 }
