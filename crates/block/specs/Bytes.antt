@@ -25,10 +25,8 @@ u64At s at = u32At s at + u32At s (at + 4) * 4294967296
 -- the part opens with the four letters
 unfoldable pub opensWith : List ℕ → List ℕ → Bool
 opensWith s letters =
-    eqb (byte s 0) (byte letters 0)
-    && (eqb (byte s 1) (byte letters 1)
-    && (eqb (byte s 2) (byte letters 2)
-    && eqb (byte s 3) (byte letters 3)))
+    eqb (byte s 0) (byte letters 0) && (eqb (byte s 1) (byte letters 1)
+    && (eqb (byte s 2) (byte letters 2) && eqb (byte s 3) (byte letters 3)))
 
 -- the n bytes from a place on are all zero
 unfoldable pub blank : List ℕ → ℕ → ℕ → Bool

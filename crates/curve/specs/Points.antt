@@ -29,11 +29,10 @@ quantityAt t weight whole = nearest (t .requirement * weight) whole
 -- the points (Q1, P1), (Q2, P2) and (Q3, 0)
 unfoldable pub curveOf : Weights → ℕ → Terms → Curve
 curveOf w whole t =
-    let quantity : ℕ → ℕ = λ weight. quantityAt t weight whole in
     record {
       p1 = record { 0 = firstPrice w t };
       p2 = record { 0 = secondPrice w t };
-      q1 = quantity (whole - w .under);
-      q2 = quantity (whole + w .over);
-      q3 = quantity (whole + w .last);
+      q1 = quantityAt t (whole - w .under) whole;
+      q2 = quantityAt t (whole + w .over) whole;
+      q3 = quantityAt t (whole + w .last) whole;
     }

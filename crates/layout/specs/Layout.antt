@@ -26,8 +26,4 @@ headMarksHold s =
 -- block 0 of a book of so many blocks: the letters, edition 1, the count, the marks, and zero from byte 27 to 507
 unfoldable pub headHolds : List ℕ → ℕ → Bool
 headHolds s blocks =
-    opensWith s rpmb
-    && (eqb (u16At s 4) 1
-    && (countFits s blocks
-    && (headMarksHold s
-    && blank s 27 481)))
+    opensWith s rpmb && (eqb (u16At s 4) 1 && (countFits s blocks && (headMarksHold s && blank s 27 481)))

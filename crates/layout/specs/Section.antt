@@ -35,8 +35,7 @@ lastHolds last p =
 unfoldable pub usedHolds : LastBytes → List ℕ → Bool
 usedHolds last p =
     lastHolds last p
-    && (absentIsZero (marked (byte p 28) 0) (u32At p 8)
-    && absentIsZero (marked (byte p 28) 1) (u32At p 16))
+    && (absentIsZero (marked (byte p 28) 0) (u32At p 8) && absentIsZero (marked (byte p 28) 1) (u32At p 16))
 
 -- a place of a block; an unused one is all zero
 unfoldable pub placeHolds : LastBytes → Bool → List ℕ → Bool
