@@ -16,13 +16,13 @@ use Rattle.laws.proofs.Filling.{length-filling}
 use Rattle.laws.proofs.Orders.{byKey-order, thenBy-order}
 use Rattle.contest.specs.inner.Contest.{wins, contenders, inOrder}
 use Rattle.contest.specs.inner.Sieve.{keyAt, settled, winners}
-use Rattle.contest.specs.inner.Award.{Awarded, Sifted, Told}
+use Rattle.contest.specs.inner.Award.{Awarded, Sifted, KeyTold}
 use Rattle.contest.proofs.Telling.{told-then}
 use Rattle.contest.proofs.Winning.{noOrder, wins-last, wins-level}
 
 -- a contest by its last key
 told-last : (keys : List ℕ) (n spare left : ℕ) (entry exit : List ℕ)
-    → Sifted keys n entry spare exit left → Told n (byKey (keyAt keys)) noOrder entry spare exit left
+    → Sifted keys n entry spare exit left → KeyTold n (byKey (keyAt keys)) noOrder entry spare exit left
 told-last keys n spare left entry exit sifted =
     let told = sifted noOrder (λ i. refl) in
     record {
@@ -40,7 +40,7 @@ module _ (k₁ k₂ k₃ k₄ : List ℕ) (n spare : ℕ) (entry : List ℕ) whe
   -- the four keys told one after another
   told-four : (l₁ l₂ l₃ left : ℕ) (s₁ s₂ s₃ told : List ℕ)
       → Sifted k₁ n entry spare s₁ l₁ → Sifted k₂ n s₁ l₁ s₂ l₂ → Sifted k₃ n s₂ l₂ s₃ l₃ → Sifted k₄ n s₃ l₃ told left
-      → Told n (inOrder k₁ k₂ k₃ k₄) noOrder entry spare told left
+      → KeyTold n (inOrder k₁ k₂ k₃ k₄) noOrder entry spare told left
   told-four l₁ l₂ l₃ left s₁ s₂ s₃ told first second third fourth =
       let last = byKey-order (keyAt k₄) in
       let after = thenBy-order (keyAt k₃) _ last in
@@ -51,7 +51,7 @@ module _ (k₁ k₂ k₃ k₄ : List ℕ) (n spare : ℕ) (entry : List ℕ) whe
 
   -- where no row has won at first, and the contest is told, a row receives what it wins
   receives-won : (left i : ℕ) (told : List ℕ) → i < n → getD entry i 0 ≤ 1
-      → Told n (inOrder k₁ k₂ k₃ k₄) noOrder entry spare told left
+      → KeyTold n (inOrder k₁ k₂ k₃ k₄) noOrder entry spare told left
       → settled told left i ≡ cond (won i) 1 0
   unfolding settled
   receives-won left i told l fresh a =

@@ -19,7 +19,7 @@ use Rattle.laws.proofs.Orders.{by-comparison, thenBy-equal}
 use Rattle.contest.specs.inner.Contest.{contenders}
 use Rattle.contest.specs.inner.Sieve.{Parts, countUnder, standsAfter, keyAt, stands, winners}
 use Rattle.contest.specs.inner.Nearest.{Alike}
-use Rattle.contest.specs.inner.Award.{Sifted, Told}
+use Rattle.contest.specs.inner.Award.{Sifted, KeyTold}
 use Rattle.contest.proofs.Steps.{level, sift-step}
 use Rattle.contest.proofs.Winning.{wins-contenders, wins-order, wins-nothing}
 
@@ -74,7 +74,7 @@ module _ (keys entry exit : List ℕ) (n spare limit : ℕ) (long : n ≤ length
 
 -- where nothing is left the standings tell it all
 pub told-nothing : (n spare : ℕ) (whole rest : ℕ → ℕ → Bool) (entry : List ℕ)
-    → spare ≡ 0 → Told n whole rest entry spare entry 0
+    → spare ≡ 0 → KeyTold n whole rest entry spare entry 0
 told-nothing n spare whole rest entry e =
     rw e
     (record {
@@ -97,8 +97,8 @@ told-alike keys n spare entry alike rest irreflexive =
 
 -- a part told, and then another
 pub told-then : (n : ℕ) (whole part rest : ℕ → ℕ → Bool) (spare some left : ℕ) (entry between exit : List ℕ)
-    → Told n whole part entry spare between some → Told n part rest between some exit left
-    → Told n whole rest entry spare exit left
+    → KeyTold n whole part entry spare between some → KeyTold n part rest between some exit left
+    → KeyTold n whole rest entry spare exit left
 told-then n whole part rest spare some left entry between exit a b =
     record {
       rows = b .rows ∙ a .rows;

@@ -19,7 +19,7 @@ use workings::share::RowShare;
 use workings::share::Share;
 use workings::stop::Next;
 use workings::stop::Stop;
-use workings::works::Answer;
+use workings::works::WorksAnswer;
 use workings::works::workings;
 
 // The curve, the total and why it stops there.
@@ -52,7 +52,7 @@ fn explain_price(stop: Stop, price: ClearingPrice) -> bool {
 
 // What the curve buys of a book, and the price.
 pub fn explain_market(book: &[u8], price: ClearingPrice) -> bool {
-    if let Answer::Worked(w) = workings(book, 0) {
+    if let WorksAnswer::Worked(w) = workings(book, 0) {
         return explain_total(w.stop) && explain_price(w.stop, price);
     }
     true
@@ -83,7 +83,7 @@ fn explain_row(
     let RowOffer::Offered(o) = offer_of(book, row) else {
         return true;
     };
-    if let Answer::Worked(w) = workings(book, row) {
+    if let WorksAnswer::Worked(w) = workings(book, row) {
         let share = w.share;
         if let RowShare::Shares(s) = share {
             return explain_share(row, o, s, price, cleared, committed);

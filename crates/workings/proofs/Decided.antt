@@ -15,7 +15,7 @@ use Rattle.workings.specs.Read.{headBy, offersBy, rowOf}
 use Rattle.workings.specs.Works.{worksOf, workedBy}
 use Rattle.workings.specs.declared.read.Head.{Head}
 use Rattle.workings.specs.declared.read.RowOffer.{RowOffer}
-use Rattle.workings.specs.declared.works.Answer.{Answer}
+use Rattle.workings.specs.declared.works.WorksAnswer.{WorksAnswer}
 use Rattle.workings.proofs.read.head_of.Reads as head-of
 use Rattle.workings.proofs.read.rows_of.Reads as rows-of
 use Rattle.workings.proofs.read.offer_of.Reads as offer-of
@@ -40,7 +40,7 @@ module _ (κs : Lfts 1) (book other : RefT (List ℕ)) (same : now book ≡ now 
   offer-of-decided row r s = same-answer (λ b. rowOf (offersBy (formFault b) (contentsOf b)) row) same
 
   -- the workings of a row, by the contract of `workings`
-  pub workings-decided : (row : ℕ) (r s : Answer)
+  pub workings-decided : (row : ℕ) (r s : WorksAnswer)
       → workings.Post κs (book, (row, tt)) r (book, (row, tt))
       → workings.Post κs (other, (row, tt)) s (other, (row, tt))
       → r ≡ s

@@ -36,13 +36,13 @@ use Rattle.workings.specs.Stop.{levelAt, tenthAt, nextAt, stopAt}
 use Rattle.workings.specs.Share.{shareAt, rowShareAt}
 use Rattle.workings.specs.Works.{worksAt, worksOf, workedBy}
 use Rattle.workings.specs.declared.works.Works.{Works}
-use Rattle.workings.specs.declared.works.Answer.the-variants.{Worked, Refused as Answer·Refused}
+use Rattle.workings.specs.declared.works.WorksAnswer.the-variants.{Worked, Refused as WorksAnswer·Refused}
 use Rattle.workings.specs.declared.stop.Stop.{Stop}
 use Rattle.workings.specs.declared.share.RowShare.{RowShare}
 
 -- ---- the answer by the book's first fault
 
-pub answer-refused : (v : Verdict) (w : Works) (number place : ℕ) → v ≡ Refused number place → Answer·Refused number place ≡ workedBy v w
+pub answer-refused : (v : Verdict) (w : Works) (number place : ℕ) → v ≡ Refused number place → WorksAnswer·Refused number place ≡ workedBy v w
 answer-refused v w number place e = rw e
 
 pub answer-worked : (v : Verdict) (w own : Works) → v ≡ Passed → w ≡ own → Worked w ≡ workedBy v own
@@ -50,7 +50,7 @@ answer-worked v w own e f = rw e (ap Worked f)
 
 -- where what comes before the rows is refused, the book is
 pub answer-before : (b : List ℕ) (w : Works) (number place : ℕ) → beforeRows b ≡ Refused number place
-    → Answer·Refused number place ≡ workedBy (firstFault b) w
+    → WorksAnswer·Refused number place ≡ workedBy (firstFault b) w
 answer-before b w number place e =
     answer-refused (firstFault b) w number place (first-before b ∙ andThen-refused (beforeRows b) _ number place e)
 

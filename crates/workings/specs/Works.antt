@@ -13,8 +13,8 @@ use Rattle.sale.specs.Auction.{offersOf}
 use Rattle.workings.specs.Stop.{stopAt}
 use Rattle.workings.specs.Share.{rowShareAt}
 use Rattle.workings.specs.declared.works.Works.{Works}
-use Rattle.workings.specs.declared.works.Answer.{Answer}
-use Rattle.workings.specs.declared.works.Answer.the-variants.{Worked, Refused as Answer·Refused}
+use Rattle.workings.specs.declared.works.WorksAnswer.{WorksAnswer}
+use Rattle.workings.specs.declared.works.WorksAnswer.the-variants.{Worked, Refused as WorksAnswer·Refused}
 
 -- where X stops on a curve, and a row's share of X
 unfoldable pub worksAt : Curve → Offers → ℕ → Works
@@ -25,6 +25,6 @@ unfoldable pub worksOf : Contents → ℕ → Works
 worksOf c row = worksAt (regionCurve (c .parameters)) (offersOf (c .offers)) row
 
 -- the workings of a book that is accepted, and of any other its refusal
-abbrev pub workedBy : Verdict → Works → Answer
+abbrev pub workedBy : Verdict → Works → WorksAnswer
 workedBy Passed works = Worked works
-workedBy (Refused number place) works = Answer·Refused number place
+workedBy (Refused number place) works = WorksAnswer·Refused number place

@@ -25,7 +25,8 @@ pub struct Works {
     pub share: RowShare,
 }
 
-pub enum Answer {
+// The workings of a book, or its refusal.
+pub enum WorksAnswer {
     Worked(Works),
     // a book that is not accepted has none
     Refused(u32, u32),
@@ -45,7 +46,7 @@ fn works_at(p: Parameters, prices: &[u32], quantities: &[u32], n: usize, row: us
 }
 
 // The workings of a row of a book whose parameters and number of rows have passed. Its rows are read once, into columns.
-fn works_opened(book: &[u8], p: Parameters, rows: u32, row: usize) -> Answer
+fn works_opened(book: &[u8], p: Parameters, rows: u32, row: usize) -> WorksAnswer
     requires { ⌜ Opened (now book) p rows ⌝ }
     ensures { λ r. ⌜ r ≡ workedBy (firstFault (now (book .entry))) (worksOf (contentsOf (now (book .entry))) row) ⌝ }
 {
@@ -66,23 +67,23 @@ fn works_opened(book: &[u8], p: Parameters, rows: u32, row: usize) -> Answer
         &mut stamps,
     );
     if let Verdict::Refused(number, place) = found {
-        return Answer::Refused(number, place);
+        return WorksAnswer::Refused(number, place);
     }
-    Answer::Worked(works_at(p, &prices, &quantities, rows as usize, row))
+    WorksAnswer::Worked(works_at(p, &prices, &quantities, rows as usize, row))
 }
 
 // The workings of a row of a book, or the book's refusal. Where the row isn't there, where the total stops is worked all the
 // same.
-pub fn workings(book: &[u8], row: usize) -> Answer
+pub fn workings(book: &[u8], row: usize) -> WorksAnswer
     ensures { λ r. ⌜ r ≡ workedBy (firstFault (now (book .entry))) (worksOf (contentsOf (now (book .entry))) row) ⌝ }
 {
     if let Verdict::Refused(number, place) = lengths(book) {
-        return Answer::Refused(number, place);
+        return WorksAnswer::Refused(number, place);
     }
     let head = opened(book);
     let fault = head.fault;
     if let Verdict::Refused(number, place) = fault {
-        return Answer::Refused(number, place);
+        return WorksAnswer::Refused(number, place);
     }
     works_opened(book, head.parameters, head.rows, row)
 }

@@ -10,7 +10,7 @@ use Rattle.contest.specs.inner.Contest.{wins, contenders, inOrder}
 use Rattle.contest.specs.inner.Sieve.{comesOut, keyAt}
 
 -- a contest with its first part told: who comes out by the whole order comes out by the rest of it, for what is left
-pub record Told (n : ℕ) (whole rest : ℕ → ℕ → Bool) (entry : List ℕ) (spare : ℕ) (exit : List ℕ) (left : ℕ) : Type 0 where
+pub record KeyTold (n : ℕ) (whole rest : ℕ → ℕ → Bool) (entry : List ℕ) (spare : ℕ) (exit : List ℕ) (left : ℕ) : Type 0 where
   -- there are as many rows as before
   pub rows : length exit ≡ length entry
   -- who comes out stays the same
@@ -21,7 +21,7 @@ pub record Told (n : ℕ) (whole rest : ℕ → ℕ → Bool) (entry : List ℕ)
 -- a contest with one key told, whatever comes after it
 abbrev pub Sifted : List ℕ → ℕ → List ℕ → ℕ → List ℕ → ℕ → Type 0
 Sifted keys n entry spare exit left =
-    (rest : ℕ → ℕ → Bool) → ((i : ℕ) → rest i i ≡ false) → Told n (thenBy (keyAt keys) rest) rest entry spare exit left
+    (rest : ℕ → ℕ → Bool) → ((i : ℕ) → rest i i ≡ false) → KeyTold n (thenBy (keyAt keys) rest) rest entry spare exit left
 
 -- what `award` asks of its lists
 pub record Ready (k₁ k₂ k₃ k₄ standings : List ℕ) (n : ℕ) : Type 0 where
