@@ -9,7 +9,7 @@ use native.Mathlib.Nat.{mul-suc, mul-zero}
 use native.Mathlib.Numerals.{add-one}
 use native.Mathlib.Omega.{arith}
 use Rattle.block.specs.Running.{runningSum, runningTotal}
-use Rattle.block.proofs.Steps.{sum-none, sum-more, total-none, total-more}
+use Rattle.block.proofs.Steps.{runningSum-none, runningSum-more, runningTotal-none, runningTotal-more}
 
 -- sums that agree modulo 65,536
 added-alike : (a b c d : ℕ) → a % 65536 ≡ b % 65536 → c % 65536 ≡ d % 65536 → (a + c) % 65536 ≡ (b + d) % 65536
@@ -39,7 +39,7 @@ pub record Board (f : ℕ → ℕ) (n first before steps x y : ℕ) : Type 0 whe
 module _ (f : ℕ → ℕ) (n first before : ℕ) where
   pub board-none : first < 65536 → before < 65536 → Board f n first before 0 first before
   board-none l m =
-      record { sum = omega (arith, sum-none f n); total = omega (arith, total-none f n, mul-zero first) }
+      record { sum = omega (arith, runningSum-none f n); total = omega (arith, runningTotal-none f n, mul-zero first) }
 
   -- a step adds the next value into the running sum, and the running sum into the total
   pub board-more : (k : ℕ) {x y v x′ y′ : ℕ} → Board f n first before k x y → v ≡ f (n - suc k)
@@ -47,12 +47,12 @@ module _ (f : ℕ → ℕ) (n first before : ℕ) where
   board-more k {x} {y} {v} {x′} {y′} b next e h =
       let r : ℕ = first + runningSum f n (suc k) in
       let t : ℕ = before + first * k + runningTotal f n k in
-      let sum : x′ ≡ r % 65536 = added-kept (first + runningSum f n k) v (b .sum) e ∙ kept (omega (arith, sum-more f n k)) in
+      let sum : x′ ≡ r % 65536 = added-kept (first + runningSum f n k) v (b .sum) e ∙ kept (omega (arith, runningSum-more f n k)) in
       let total : y′ ≡ (t + r) % 65536 = kept-added t r (b .total) sum h in
       rw (add-one k)
       (record {
         sum = sum;
-        total = total ∙ kept (omega (arith, total-more f n k, mul-suc first k));
+        total = total ∙ kept (omega (arith, runningTotal-more f n k, mul-suc first k));
       })
 
 -- after all steps from nothing
@@ -65,17 +65,17 @@ module _ (f : ℕ → ℕ) (n : ℕ) {k x y : ℕ} (b : Board f n 0 0 k x y) (e 
 
 -- values that are kept modulo 65,536 leave both as they are, modulo 65,536
 module _ (f g : ℕ → ℕ) (n : ℕ) (same : (i : ℕ) → i < n → f i ≡ g i % 65536) where
-  pub sum-kept : (k : ℕ) → k ≤ n → runningSum f n k % 65536 ≡ runningSum g n k % 65536
-  sum-kept zero l = kept (sum-none f n ∙ sym (sum-none g n))
-  sum-kept (suc k) l =
+  pub runningSum-kept : (k : ℕ) → k ≤ n → runningSum f n k % 65536 ≡ runningSum g n k % 65536
+  runningSum-kept zero l = kept (runningSum-none f n ∙ sym (runningSum-none g n))
+  runningSum-kept (suc k) l =
       let i : ℕ = n - suc k in
-      kept (sum-more f n k)
-      ∙ added-alike _ _ (f i) (g i) (sum-kept k (omega arith)) (kept-twice (g i) (same i (omega arith)))
-      ∙ kept (sym (sum-more g n k))
+      kept (runningSum-more f n k)
+      ∙ added-alike _ _ (f i) (g i) (runningSum-kept k (omega arith)) (kept-twice (g i) (same i (omega arith)))
+      ∙ kept (sym (runningSum-more g n k))
 
-  pub total-kept : (k : ℕ) → k ≤ n → runningTotal f n k % 65536 ≡ runningTotal g n k % 65536
-  total-kept zero l = kept (total-none f n ∙ sym (total-none g n))
-  total-kept (suc k) l =
-      kept (total-more f n k)
-      ∙ added-alike _ _ _ _ (total-kept k (omega arith)) (sum-kept (suc k) l)
-      ∙ kept (sym (total-more g n k))
+  pub runningTotal-kept : (k : ℕ) → k ≤ n → runningTotal f n k % 65536 ≡ runningTotal g n k % 65536
+  runningTotal-kept zero l = kept (runningTotal-none f n ∙ sym (runningTotal-none g n))
+  runningTotal-kept (suc k) l =
+      kept (runningTotal-more f n k)
+      ∙ added-alike _ _ _ _ (runningTotal-kept k (omega arith)) (runningSum-kept (suc k) l)
+      ∙ kept (sym (runningTotal-more g n k))

@@ -5,10 +5,11 @@
 -- Assumes nothing.
 use mathlib.Core.Path.{_≡_, sym, ap, _∙_}
 use Prim.Native.Nat.{ℕ, zero, suc, _+_, _*_}
-use native.Mathlib.Nat.{mul-add, add-mul, mul-assoc, suc-mul, add-comm}
+use native.Mathlib.Nat.{mul-add, add-mul, mul-assoc, add-comm}
 use native.Mathlib.Omega.{arith}
 use Rattle.laws.specs.Sum.{sumTo}
 use Rattle.laws.proofs.Sums.{sumTo-zero, sumTo-suc, sumTo-ext, sumTo-add, sumTo-append, sumTo-mul, sumTo-none}
+use Rattle.block.proofs.Steps.{placed}
 
 -- the sum over one column, over n rows of sixteen
 abbrev down : (ℕ → ℕ) → ℕ → ℕ → ℕ
@@ -34,16 +35,12 @@ by-columns f (suc n) =
     )
 
 module _ (f : ℕ → ℕ) where
-  -- each value times its position, counted from 1
-  abbrev placed : ℕ → ℕ
-  placed i = f i * (i + 1)
-
   -- a column of bytes 28 to 507
   abbrev pub column : ℕ → ℕ → ℕ
   column c row = f (row * 16 + c + 28)
 
   -- a value's position is that of the byte before the rows, and sixteen for each row
-  place-column : (c row : ℕ) → placed (row * 16 + c + 28) ≡ column c row * (c + 13) + 16 * (column c row * (row + 1))
+  place-column : (c row : ℕ) → placed f (row * 16 + c + 28) ≡ column c row * (c + 13) + 16 * (column c row * (row + 1))
   place-column c row =
       let x : ℕ = column c row in
       let place : row * 16 + c + 28 + 1 ≡ c + 13 + (row + 1) * 16 = omega arith in
@@ -54,12 +51,12 @@ module _ (f : ℕ → ℕ) where
         mul-assoc x (row + 1) 16,
       )
 
-  placed-column : (c n : ℕ) → sumTo (λ row. placed (row * 16 + c + 28)) n
+  placed-column : (c n : ℕ) → sumTo (λ row. placed f (row * 16 + c + 28)) n
       ≡ sumTo (column c) n * (c + 13) + 16 * sumTo (λ row. column c row * (row + 1)) n
   placed-column c zero =
       omega (
         arith,
-        sumTo-zero (λ row. placed (row * 16 + c + 28)),
+        sumTo-zero (λ row. placed f (row * 16 + c + 28)),
         ap (λ (k : ℕ). k * (c + 13)) (sumTo-zero (column c)),
         sumTo-zero (λ row. column c row * (row + 1)),
       )
@@ -68,7 +65,7 @@ module _ (f : ℕ → ℕ) where
         arith,
         placed-column c n,
         place-column c n,
-        sumTo-suc (λ row. placed (row * 16 + c + 28)) n,
+        sumTo-suc (λ row. placed f (row * 16 + c + 28)) n,
         sumTo-suc (λ row. column c row * (row + 1)) n,
         ap (λ (k : ℕ). k * (c + 13)) (sumTo-suc (column c) n),
         add-mul (sumTo (column c) n) (column c n) (c + 13),
@@ -83,7 +80,7 @@ module _ (f : ℕ → ℕ) where
 
   -- as the steps over the columns, the steps over bytes 11 to 0 and the doubled totals count a column
   weighed-column : (c : ℕ) →
-      summed c * (c + 1) + 12 * summed c + 16 * totalled c ≡ sumTo (λ row. placed (row * 16 + c + 28)) 30 + placed (c + 12)
+      summed c * (c + 1) + 12 * summed c + 16 * totalled c ≡ sumTo (λ row. placed f (row * 16 + c + 28)) 30 + placed f (c + 12)
   weighed-column c =
       let x : ℕ = summed c in
       let place : c + 13 ≡ c + 1 + 12 = omega arith in
@@ -108,8 +105,8 @@ module _ (f : ℕ → ℕ) where
 
   -- the second sum
   pub second-columns :
-      sumTo (λ c. summed f c * (c + 1)) 16 + 12 * sumTo (summed f) 16 + sumTo (λ i. f i * (i + 1)) 12 + 16 * sumTo (totalled f) 16
-      ≡ sumTo (λ i. f i * (i + 1)) 508
+      sumTo (λ c. summed f c * (c + 1)) 16 + 12 * sumTo (summed f) 16 + sumTo (placed f) 12 + 16 * sumTo (totalled f) 16
+      ≡ sumTo (placed f) 508
   second-columns =
       let w : ℕ → ℕ = λ c. summed f c * (c + 1) in
       omega (

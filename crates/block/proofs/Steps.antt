@@ -15,48 +15,48 @@ use Rattle.block.specs.Bytes.{byte}
 use Rattle.block.specs.Check.{firstSum, secondSum}
 use Rattle.block.specs.Running.{runningSum, runningTotal, blockSum, blockTotal}
 
+-- each value times its place counted from 1
+abbrev pub placed : (ℕ → ℕ) → ℕ → ℕ
+placed f i = f i * (i + 1)
+
 module _ (f : ℕ → ℕ) (n : ℕ) where
-  pub sum-none : runningSum f n 0 ≡ 0
+  pub runningSum-none : runningSum f n 0 ≡ 0
   unfolding runningSum
-  sum-none = refl
+  runningSum-none = refl
 
-  pub sum-more : (k : ℕ) → runningSum f n (suc k) ≡ runningSum f n k + f (n - suc k)
+  pub runningSum-more : (k : ℕ) → runningSum f n (suc k) ≡ runningSum f n k + f (n - suc k)
   unfolding runningSum
-  sum-more k = refl
+  runningSum-more k = refl
 
-  pub total-none : runningTotal f n 0 ≡ 0
+  pub runningTotal-none : runningTotal f n 0 ≡ 0
   unfolding runningTotal
-  total-none = refl
+  runningTotal-none = refl
 
-  pub total-more : (k : ℕ) → runningTotal f n (suc k) ≡ runningTotal f n k + runningSum f n (suc k)
+  pub runningTotal-more : (k : ℕ) → runningTotal f n (suc k) ≡ runningTotal f n k + runningSum f n (suc k)
   unfolding runningTotal
-  total-more k = refl
-
-  -- each value times its place counted from 1
-  abbrev placed : ℕ → ℕ
-  placed i = f i * (i + 1)
+  runningTotal-more k = refl
 
   -- the running sum has what stands behind the m places that are left
-  sum-rest : (k m : ℕ) → m + k ≡ n → runningSum f n k + sumTo f m ≡ sumTo f n
-  sum-rest zero m e = omega (arith, sum-none, ap (sumTo f) (sym (add-zero m) ∙ e))
-  sum-rest (suc k) m e =
+  runningSum-rest : (k m : ℕ) → m + k ≡ n → runningSum f n k + sumTo f m ≡ sumTo f n
+  runningSum-rest zero m e = omega (arith, runningSum-none, ap (sumTo f) (sym (add-zero m) ∙ e))
+  runningSum-rest (suc k) m e =
       let here : n - suc k ≡ m = omega arith in
-      omega (arith, sum-more k, sumTo-suc f m, sum-rest k (suc m) (omega arith), ap f here)
+      omega (arith, runningSum-more k, sumTo-suc f m, runningSum-rest k (suc m) (omega arith), ap f here)
 
   -- and will be added into the total as often as places are left
-  total-rest : (k m : ℕ) → m + k ≡ n → runningTotal f n k + runningSum f n k * m + sumTo placed m ≡ sumTo placed n
-  total-rest zero m e =
-      omega (arith, sum-none, total-none, ap (λ (x : ℕ). x * m) sum-none, ap (sumTo placed) (sym (add-zero m) ∙ e))
-  total-rest (suc k) m e =
+  runningTotal-rest : (k m : ℕ) → m + k ≡ n → runningTotal f n k + runningSum f n k * m + sumTo (placed f) m ≡ sumTo (placed f) n
+  runningTotal-rest zero m e =
+      omega (arith, runningSum-none, runningTotal-none, ap (λ (x : ℕ). x * m) runningSum-none, ap (sumTo (placed f)) (sym (add-zero m) ∙ e))
+  runningTotal-rest (suc k) m e =
       let here : n - suc k ≡ m = omega arith in
       let r : ℕ = runningSum f n k in
-      let grown : runningSum f n (suc k) ≡ r + f m = sum-more k ∙ ap (λ (x : ℕ). r + f x) here in
+      let grown : runningSum f n (suc k) ≡ r + f m = runningSum-more k ∙ ap (λ (x : ℕ). r + f x) here in
       omega (
         arith,
         grown,
-        total-more k,
-        total-rest k (suc m) (omega arith),
-        sumTo-suc placed m,
+        runningTotal-more k,
+        runningTotal-rest k (suc m) (omega arith),
+        sumTo-suc (placed f) m,
         ap (λ (x : ℕ). x * m) grown,
         add-mul r (f m) m,
         mul-suc r m,
@@ -65,18 +65,19 @@ module _ (f : ℕ → ℕ) (n : ℕ) where
       )
 
   -- after all steps the running sum is the sum
-  pub sum-all : runningSum f n n ≡ sumTo f n
-  sum-all = omega (arith, sum-rest n 0 (omega arith), sumTo-zero f)
+  pub runningSum-all : runningSum f n n ≡ sumTo f n
+  runningSum-all = omega (arith, runningSum-rest n 0 (omega arith), sumTo-zero f)
 
   -- and the total the sum of each value times its place
-  pub total-all : runningTotal f n n ≡ sumTo (λ i. f i * (i + 1)) n
-  total-all = omega (arith, total-rest n 0 (omega arith), sumTo-zero placed, mul-zero (runningSum f n n))
+  pub runningTotal-all : runningTotal f n n ≡ sumTo (placed f) n
+  runningTotal-all = omega (arith, runningTotal-rest n 0 (omega arith), sumTo-zero (placed f), mul-zero (runningSum f n n))
 
--- Running sums from byte 507 back end with the first sum and the second.
-pub block-sum : (s : List ℕ) → blockSum s ≡ firstSum s
+-- Running sums from byte 507 back: at byte 0 the running sum is the first sum of the check.
+pub blockSum-first : (s : List ℕ) → blockSum s ≡ firstSum s
 unfolding firstSum
-block-sum s = sum-all (byte s) 508
+blockSum-first s = runningSum-all (byte s) 508
 
-pub block-total : (s : List ℕ) → blockTotal s ≡ secondSum s
+-- And the total is the second.
+pub blockTotal-second : (s : List ℕ) → blockTotal s ≡ secondSum s
 unfolding secondSum
-block-total s = total-all (byte s) 508
+blockTotal-second s = runningTotal-all (byte s) 508

@@ -13,9 +13,10 @@ use Rattle.laws.specs.Filled.{filled}
 use Rattle.laws.proofs.Sums.{sumTo-ext}
 use Rattle.laws.proofs.Fills.{getD-filled}
 use Rattle.block.specs.Bytes.{byte}
-use Rattle.block.specs.Running.{runningSum, runningTotal, blockSum, blockTotal, inColumn, columnSum, columnTotal}
-use Rattle.block.proofs.Steps.{sum-all, total-all}
-use Rattle.block.proofs.Boards.{kept, kept-added, added-kept, sum-kept, total-kept}
+use Rattle.block.specs.Running.{runningSum, runningTotal, blockSum, blockTotal}
+use Rattle.block.specs.Columns.{inColumn, columnSum, columnTotal}
+use Rattle.block.proofs.Steps.{runningSum-all, runningTotal-all}
+use Rattle.block.proofs.Boards.{kept, kept-added, added-kept, runningSum-kept, runningTotal-kept}
 use Rattle.block.proofs.Grid.{summed, totalled, first-columns, second-columns}
 
 -- a number doubled four times
@@ -46,21 +47,21 @@ module _ (s sums before : List ℕ) (e : sums ≡ filled (columnSum s) 16 before
   stored-kept c h =
       ap (λ (xs : List ℕ). getD xs c 0) e
       ∙ getD-filled (columnSum s) 16 before c 0 l h
-      ∙ kept (ap (λ (x : ℕ). x + byte s (c + 12)) (sum-all (inColumn s c) 30))
+      ∙ kept (ap (λ (x : ℕ). x + byte s (c + 12)) (runningSum-all (inColumn s c) 30))
 
   sum-columns : runningSum stored 16 16 % 65536 ≡ sumTo (summed (byte s)) 16 % 65536
-  sum-columns = sum-kept stored (summed (byte s)) 16 stored-kept 16 (le-refl 16) ∙ kept (sum-all (summed (byte s)) 16)
+  sum-columns = runningSum-kept stored (summed (byte s)) 16 stored-kept 16 (le-refl 16) ∙ kept (runningSum-all (summed (byte s)) 16)
 
   total-columns : runningTotal stored 16 16 % 65536 ≡ sumTo (λ c. summed (byte s) c * (c + 1)) 16 % 65536
   total-columns =
-      total-kept stored (summed (byte s)) 16 stored-kept 16 (le-refl 16) ∙ kept (total-all (summed (byte s)) 16)
+      runningTotal-kept stored (summed (byte s)) 16 stored-kept 16 (le-refl 16) ∙ kept (runningTotal-all (summed (byte s)) 16)
 
   module _ {x y : ℕ} (sum : x ≡ runningSum stored 16 16 % 65536) (total : y ≡ runningTotal stored 16 16 % 65536) where
     -- the running sum, after bytes 11 to 0
     pub sum-together : {r : ℕ} → r ≡ (x + runningSum (byte s) 12 12) % 65536 → r ≡ blockSum s % 65536
     sum-together h =
         added-kept _ _ (sum ∙ sum-columns) h
-        ∙ kept (omega (arith, first-columns (byte s), sum-all (byte s) 12, sum-all (byte s) 508))
+        ∙ kept (omega (arith, first-columns (byte s), runningSum-all (byte s) 12, runningSum-all (byte s) 508))
 
     -- the total, after bytes 11 to 0 and with sixteen times the totals of the columns
     pub total-together : {z t r : ℕ} → z ≡ (y + x * 12 + runningTotal (byte s) 12 12) % 65536
@@ -70,7 +71,7 @@ module _ (s sums before : List ℕ) (e : sums ≡ filled (columnSum s) 16 before
         ∙ kept (omega (
           arith,
           second-columns (byte s),
-          total-all (byte s) 12,
-          total-all (byte s) 508,
-          sumTo-ext (columnTotal s) (totalled (byte s)) 16 (λ c i. total-all (inColumn s c) 30),
+          runningTotal-all (byte s) 12,
+          runningTotal-all (byte s) 508,
+          sumTo-ext (columnTotal s) (totalled (byte s)) 16 (λ c i. runningTotal-all (inColumn s c) 30),
         ))

@@ -12,8 +12,8 @@ ghost use lib.ListN.{length};
 ghost use Rattle.block.specs.Running.{blockSum, blockTotal};
 ghost use Rattle.block.specs.Check.{checkHolds};
 
-// Both sums of bytes 0 to 507: the columns side by side, then over the columns, then over the bytes before them. A step within a
-// column is sixteen bytes long, so that the columns' totals count sixteen times: doubled, and doubled again, four times in all.
+// Both sums of bytes 0 to 507: over each column, then over the columns, then over the bytes before them. From row to row are
+// sixteen places, so that the columns' totals count sixteen times: they are doubled four times.
 fn check_sums(s: &[u8]) -> Running
     requires { ⌜ 512 ≤ length (now s) ⌝ }
     ensures { λ r. ⌜ r .sum ≡ blockSum (now (s .entry)) % 65536 ⌝ }

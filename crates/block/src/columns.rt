@@ -1,5 +1,5 @@
-// Running sums of a block by columns: bytes 28 to 507 stand in thirty rows of sixteen, each column is run over from the last row
-// back, and then the columns from the last back. The columns are summed side by side, which is what makes it fast.
+// Running sums of bytes 12 to 507 by columns: each of sixteen columns is run over from its last row back, side by side with the
+// others, and then their sums from the last column back.
 use crate::running::Running;
 use crate::running::added;
 use crate::running::step;
@@ -9,9 +9,10 @@ ghost use Prim.Native.Nat.{_+_, _%_, _≤_, _<_};
 ghost use lib.ListN.{length, getD};
 ghost use Rattle.laws.specs.Sum.{sumTo};
 ghost use Rattle.laws.specs.Filled.{filled};
-ghost use Rattle.block.specs.Running.{runningSum, runningTotal, inColumn, columnSum, columnTotal};
+ghost use Rattle.block.specs.Running.{runningSum, runningTotal};
+ghost use Rattle.block.specs.Columns.{inColumn, columnSum, columnTotal};
 
-// Runs over one column, from the last row back.
+// Runs over one column of bytes 28 to 507, from the last of its thirty rows back.
 fn over_rows(s: &[u8], column: usize) -> Running
     requires { ⌜ (512 ≤ length (now s)) × (column < 16) ⌝ }
     ensures { λ r. ⌜ r .sum ≡ runningSum (inColumn (now (s .entry)) column) 30 30 % 65536 ⌝ }
@@ -19,14 +20,14 @@ fn over_rows(s: &[u8], column: usize) -> Running
 {
     let mut board = Running { sum: 0, total: 0 };
     let mut at = 508 + column;
-    for row in 0..30usize {
+    for passed in 0..30usize {
         at -= 16;
         board = step(board, wide16(s[at]));
     }
     board
 }
 
-// Runs over each column. Leaves the columns' sums, each with the byte before its rows, and returns their totals, added up.
+// Runs over each column. Stores the columns' sums, each with the byte before its rows, and returns their totals, added up.
 pub fn column_sums(s: &[u8], sums: &mut [u16]) -> u16
     requires { ⌜ (512 ≤ length (now s)) × (16 ≤ length (now sums)) ⌝ }
     ensures { λ r. ⌜ r ≡ sumTo (columnTotal (now (s .entry))) 16 % 65536 ⌝ }

@@ -4,7 +4,7 @@ use mathlib.Core.Path.{_∙_}
 use borrow.Author.Needs.{needs}
 use borrow.Author.Tests.{eq-eqb, ne-eqb}
 use Rattle.block.specs.Check.{checkHolds}
-use Rattle.block.proofs.Steps.{block-sum, block-total}
+use Rattle.block.proofs.Steps.{blockSum-first, blockTotal-second}
 use Rattle.block.proofs.Boards.{kept}
 use Rattle.block.proofs.check.check_holds.Statement.{statement}
 use Rattle.block.proofs.check.check_holds.Tie as tie
@@ -30,8 +30,8 @@ returns c =
     let b = c .before .before .before .before .before in
     let s = b .before .before .args .s .now in
     rw (
-      ← (b .check-sums .ensures .0 ∙ kept (block-sum s)),
-      ← (b .check-sums .ensures .1 ∙ kept (block-total s)),
+      ← (b .check-sums .ensures .0 ∙ kept (blockSum-first s)),
+      ← (b .check-sums .ensures .1 ∙ kept (blockTotal-second s)),
       ← (c .before .before .before .u16-at .ensures .0),
       ← (c .u16-at2 .ensures .0),
       eq-eqb _ _ (c .before .before .if1 .taken),
@@ -43,7 +43,7 @@ returns-2 c =
     let b = c .before .before .before in
     let s = b .before .before .args .s .now in
     rw (
-      ← (b .check-sums .ensures .0 ∙ kept (block-sum s)),
+      ← (b .check-sums .ensures .0 ∙ kept (blockSum-first s)),
       ← (c .before .u16-at .ensures .0),
       ne-eqb _ _ (c .if1 .left),
     )

@@ -11,7 +11,8 @@ use Rattle.laws.proofs.Sums.{sumTo-suc}
 use Rattle.laws.proofs.Loops.{kept-none, kept-all}
 use Rattle.laws.proofs.Fills.{filled-none, filled-more}
 use Rattle.laws.proofs.Filling.{length-filling, filled-all}
-use Rattle.block.specs.Running.{runningSum, inColumn, columnSum, columnTotal}
+use Rattle.block.specs.Running.{runningSum}
+use Rattle.block.specs.Columns.{inColumn, columnSum, columnTotal}
 use Rattle.block.proofs.Boards.{kept, kept-added, added-kept}
 use Rattle.block.proofs.columns.column_sums.Statement.{statement}
 use Rattle.block.proofs.columns.column_sums.Tie as tie

@@ -5,17 +5,17 @@ use Prim.Native.Nat.{suc, _≤_, _+_, _*_, _-_}
 use native.Mathlib.Omega.{arith}
 use borrow.Author.Needs.{needs}
 use Rattle.block.specs.Bytes.{byte}
-use Rattle.block.specs.Running.{inColumn}
+use Rattle.block.specs.Columns.{inColumn}
 use Rattle.block.proofs.Boards.{Board, board-none, board-more, board-sum, board-total}
 use Rattle.block.proofs.columns.over_rows.Statement.{statement}
 use Rattle.block.proofs.columns.over_rows.Tie as tie
 
 abbrev Inv-loop : tie.InvT-loop
-Inv-loop s column board₀ at₀ row₀ board at row =
-    (row ≤ 30) × (at + row * 16 ≡ 508 + column) × Board (inColumn s column) 30 0 0 row (board .sum) (board .total)
+Inv-loop s column board₀ at₀ passed₀ board at passed =
+    (passed ≤ 30) × (at + passed * 16 ≡ 508 + column) × Board (inColumn s column) 30 0 0 passed (board .sum) (board .total)
 
 abbrev μ-loop : tie.MeasureT-loop
-μ-loop s column board₀ at₀ row₀ board at row = 30 - row
+μ-loop s column board₀ at₀ passed₀ board at passed = 30 - passed
 
 add-at : tie.Need-add-at Inv-loop μ-loop
 add-at c = search needs
@@ -35,8 +35,8 @@ wide16-requires c κs = search needs
 step-requires : tie.Need-step-requires Inv-loop μ-loop
 step-requires c κs = search needs
 
-add-row : tie.Need-add-row Inv-loop μ-loop
-add-row c = search needs
+add-passed : tie.Need-add-passed Inv-loop μ-loop
+add-passed c = search needs
 
 loop-less : tie.Need-loop-less Inv-loop μ-loop
 loop-less c = search needs
@@ -45,7 +45,7 @@ loop-again : tie.Need-loop-again Inv-loop μ-loop
 loop-again c =
     let b = c .before .before .before .before in
     let a = b .before .before .args in
-    let place : b .loop .at - 16 ≡ (30 - suc (b .loop .row)) * 16 + a .column + 28 = omega arith in (
+    let place : b .loop .at - 16 ≡ (30 - suc (b .loop .passed)) * 16 + a .column + 28 = omega arith in (
       omega arith,
       omega arith,
       board-more _ _ _ _ _ (b .loop .inv .2)
@@ -57,7 +57,7 @@ loop-again c =
 returns : tie.Need-returns Inv-loop μ-loop
 returns c =
     let b = c .before .loop .inv .2 in
-    let all : c .before .loop .row ≡ 30 = omega arith in
+    let all : c .before .loop .passed ≡ 30 = omega arith in
     (board-sum _ _ b all, board-total _ _ b all)
 
 pub over-rows-spec : {M : Type 1} → statement M
@@ -72,7 +72,7 @@ over-rows-spec =
     shared-slice-read-wide16
     wide16-requires
     step-requires
-    add-row
+    add-passed
     loop-less
     loop-again
     returns)
