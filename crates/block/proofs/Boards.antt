@@ -1,7 +1,7 @@
 -- A running sum and a total that are kept modulo 65,536, as the code keeps them.
 --
--- In order: what they are after some steps from where they stood; where they stood; one step more; all steps, from nothing;
--- values that are themselves kept modulo 65,536.
+-- In order: sums of numbers that are kept so; what both are after some steps, where they began, and after one step more; all
+-- steps, from nothing; values that are themselves kept so.
 -- Assumes nothing.
 use mathlib.Core.Path.{_≡_, sym, ap, _∙_}
 use Prim.Native.Nat.{ℕ, zero, suc, _+_, _*_, _-_, _%_, _≤_, _<_}
@@ -33,10 +33,13 @@ added-kept a v e h = omega arith
 
 -- the running sum and the total after some steps, where they were `first` and `before`
 pub record Board (f : ℕ → ℕ) (n first before steps x y : ℕ) : Type 0 where
+  -- each value is in the running sum
   pub sum : x ≡ (first + runningSum f n steps) % 65536
+  -- and what the running sum was at first came into the total at each step
   pub total : y ≡ (before + first * steps + runningTotal f n steps) % 65536
 
 module _ (f : ℕ → ℕ) (n first before : ℕ) where
+  -- where they begin
   pub board-none : first < 65536 → before < 65536 → Board f n first before 0 first before
   board-none l m =
       record { sum = omega (arith, runningSum-none f n); total = omega (arith, runningTotal-none f n, mul-zero first) }
@@ -47,7 +50,8 @@ module _ (f : ℕ → ℕ) (n first before : ℕ) where
   board-more k {x} {y} {v} {x′} {y′} b next e h =
       let r : ℕ = first + runningSum f n (suc k) in
       let t : ℕ = before + first * k + runningTotal f n k in
-      let sum : x′ ≡ r % 65536 = added-kept (first + runningSum f n k) v (b .sum) e ∙ kept (omega (arith, runningSum-more f n k)) in
+      let grown : first + runningSum f n k + v ≡ r = omega (arith, runningSum-more f n k) in
+      let sum : x′ ≡ r % 65536 = added-kept (first + runningSum f n k) v (b .sum) e ∙ kept grown in
       let total : y′ ≡ (t + r) % 65536 = kept-added t r (b .total) sum h in
       rw (add-one k)
       (record {

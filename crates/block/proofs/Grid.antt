@@ -51,6 +51,7 @@ module _ (f : ℕ → ℕ) where
         mul-assoc x (row + 1) 16,
       )
 
+  -- a column's bytes times their positions
   placed-column : (c n : ℕ) → sumTo (λ row. placed f (row * 16 + c + 28)) n
       ≡ sumTo (column c) n * (c + 13) + 16 * sumTo (λ row. column c row * (row + 1)) n
   placed-column c zero =
@@ -71,17 +72,18 @@ module _ (f : ℕ → ℕ) where
         add-mul (sumTo (column c) n) (column c n) (c + 13),
       )
 
-  -- a column's sum, with the byte before its rows, and its total
+  -- a column's sum, with the byte before its rows
   abbrev pub summed : ℕ → ℕ
   summed c = sumTo (column c) 30 + f (c + 12)
 
+  -- a column's total: each byte times how many rows it is from the byte before them
   abbrev pub totalled : ℕ → ℕ
   totalled c = sumTo (λ row. column c row * (row + 1)) 30
 
-  -- as the steps over the columns, the steps over bytes 11 to 0 and the doubled totals count a column
-  weighed-column : (c : ℕ) →
+  -- the steps over the columns, those over bytes 11 to 0 and the doubled totals count each byte of a column by its position
+  counted-column : (c : ℕ) →
       summed c * (c + 1) + 12 * summed c + 16 * totalled c ≡ sumTo (λ row. placed f (row * 16 + c + 28)) 30 + placed f (c + 12)
-  weighed-column c =
+  counted-column c =
       let x : ℕ = summed c in
       let place : c + 13 ≡ c + 1 + 12 = omega arith in
       let place′ : c + 12 + 1 ≡ c + 13 = omega arith in
@@ -95,7 +97,8 @@ module _ (f : ℕ → ℕ) where
       )
 
 -- the places of a block that are summed, by the columns
-in-columns : (g : ℕ → ℕ) → sumTo g 508 ≡ sumTo g 12 + sumTo (λ c. g (c + 12)) 16 + sumTo (λ c. sumTo (λ row. g (row * 16 + c + 28)) 30) 16
+in-columns : (g : ℕ → ℕ) → sumTo g 508
+    ≡ sumTo g 12 + sumTo (λ c. g (c + 12)) 16 + sumTo (λ c. sumTo (λ row. g (row * 16 + c + 28)) 30) 16
 in-columns g = omega (arith, sumTo-append g 12 16, sumTo-append g 28 480, by-columns (λ i. g (i + 28)) 30)
 
 module _ (f : ℕ → ℕ) where
@@ -112,7 +115,7 @@ module _ (f : ℕ → ℕ) where
       omega (
         arith,
         in-columns (placed f),
-        sumTo-ext _ _ 16 (λ c l. weighed-column f c),
+        sumTo-ext _ _ 16 (λ c l. counted-column f c),
         sumTo-add (λ c. w c + 12 * summed f c) (λ c. 16 * totalled f c) 16,
         sumTo-add w (λ c. 12 * summed f c) 16,
         sumTo-mul 12 (summed f) 16,

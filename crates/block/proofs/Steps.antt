@@ -1,7 +1,7 @@
 -- Laws of running sums from the last place back.
 --
--- In order: one step more; what is added up after some steps, and after all; the running sum and the total of a block are its
--- first and second sum.
+-- In order: no step, and one more; what both are after some steps, and after all; the running sum and the total of a block are
+-- its first and second sum.
 -- Assumes nothing.
 use mathlib.Core.Path.{_≡_, refl, sym, ap, _∙_}
 use mathlib.Core.List.{List}
@@ -44,9 +44,11 @@ module _ (f : ℕ → ℕ) (n : ℕ) where
       omega (arith, runningSum-more k, sumTo-suc f m, runningSum-rest k (suc m) (omega arith), ap f here)
 
   -- and will be added into the total as often as places are left
-  runningTotal-rest : (k m : ℕ) → m + k ≡ n → runningTotal f n k + runningSum f n k * m + sumTo (placed f) m ≡ sumTo (placed f) n
+  runningTotal-rest : (k m : ℕ) → m + k ≡ n
+      → runningTotal f n k + runningSum f n k * m + sumTo (placed f) m ≡ sumTo (placed f) n
   runningTotal-rest zero m e =
-      omega (arith, runningSum-none, runningTotal-none, ap (λ (x : ℕ). x * m) runningSum-none, ap (sumTo (placed f)) (sym (add-zero m) ∙ e))
+      let whole : sumTo (placed f) m ≡ sumTo (placed f) n = ap (sumTo (placed f)) (sym (add-zero m) ∙ e) in
+      omega (arith, runningTotal-none, ap (λ (x : ℕ). x * m) runningSum-none)
   runningTotal-rest (suc k) m e =
       let here : n - suc k ≡ m = omega arith in
       let r : ℕ = runningSum f n k in
@@ -70,7 +72,8 @@ module _ (f : ℕ → ℕ) (n : ℕ) where
 
   -- and the total the sum of each value times its place
   pub runningTotal-all : runningTotal f n n ≡ sumTo (placed f) n
-  runningTotal-all = omega (arith, runningTotal-rest n 0 (omega arith), sumTo-zero (placed f), mul-zero (runningSum f n n))
+  runningTotal-all =
+      omega (arith, runningTotal-rest n 0 (omega arith), sumTo-zero (placed f), mul-zero (runningSum f n n))
 
 -- Running sums from byte 507 back: at byte 0 the running sum is the first sum of the check.
 pub blockSum-first : (s : List ℕ) → blockSum s ≡ firstSum s

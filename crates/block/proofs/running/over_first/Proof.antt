@@ -1,7 +1,7 @@
 -- `over_first` goes on over bytes 11 to 0. The loop's invariant: what the board holds after so many steps from where it stood.
 -- Assumes nothing.
 use mathlib.Core.Path.{_≡_, ap, _∙_}
-use Prim.Native.Nat.{ℕ, suc, _≤_, _+_, _*_, _-_, _%_}
+use Prim.Native.Nat.{suc, _≤_, _-_}
 use native.Mathlib.Omega.{arith}
 use borrow.Author.Needs.{needs}
 use Rattle.block.specs.Bytes.{byte}
