@@ -19,16 +19,13 @@ down f n column = sumTo (λ row. f (row * 16 + column)) n
 by-columns : (f : ℕ → ℕ) (n : ℕ) → sumTo (down f n) 16 ≡ sumTo f (n * 16)
 by-columns f zero = sumTo-none (down f zero) 16 (λ c l. sumTo-zero (λ row. f (row * 16 + c))) ∙ sym (sumTo-zero f)
 by-columns f (suc n) =
-    let rows : sumTo (down f (suc n)) 16 ≡ sumTo (λ c. down f n c + f (n * 16 + c)) 16 =
-    sumTo-ext _ _ 16 (λ c l. sumTo-suc (λ row. f (row * 16 + c)) n) in
-    let last : sumTo (λ c. f (n * 16 + c)) 16 ≡ sumTo (λ c. f (c + n * 16)) 16 =
-    sumTo-ext _ _ 16 (λ c l. ap f (add-comm (n * 16) c)) in
+    let last : ℕ → ℕ = λ c. f (n * 16 + c) in
     let place : suc n * 16 ≡ n * 16 + 16 = omega arith in
     omega (
       arith,
-      rows,
-      last,
-      sumTo-add (down f n) (λ c. f (n * 16 + c)) 16,
+      sumTo-ext (down f (suc n)) (λ c. down f n c + last c) 16 (λ c l. sumTo-suc (λ row. f (row * 16 + c)) n),
+      sumTo-ext last (λ c. f (c + n * 16)) 16 (λ c l. ap f (add-comm (n * 16) c)),
+      sumTo-add (down f n) last 16,
       by-columns f n,
       sumTo-append f (n * 16) 16,
       ap (sumTo f) place,

@@ -1,6 +1,7 @@
 -- The columns of a block put together: what the steps over them and over bytes 11 to 0 leave, and the totals doubled four times.
 --
--- In order: a total doubled four times; the sums of the columns as the code keeps them; the running sum and the total of the block.
+-- In order: a number doubled four times; the sums of the columns as the code keeps them; the running sum and the total of the
+-- block.
 -- Assumes nothing.
 use mathlib.Core.Path.{_≡_, sym, ap, _∙_}
 use mathlib.Core.List.{List}
@@ -39,6 +40,7 @@ went-on a b w {x} {y} e f h =
     ∙ kept (omega (arith, mod-add-div' a 65536, mod-add-div' b 65536))
 
 module _ (s sums before : List ℕ) (e : sums ≡ filled (columnSum s) 16 before) (l : 16 ≤ length before) where
+  -- what is stored of a column
   abbrev stored : ℕ → ℕ
   stored c = getD sums c 0
 
@@ -49,9 +51,12 @@ module _ (s sums before : List ℕ) (e : sums ≡ filled (columnSum s) 16 before
       ∙ getD-filled (columnSum s) 16 before c 0 l h
       ∙ kept (ap (λ (x : ℕ). x + byte s (c + 12)) (runningSum-all (inColumn s c) 30))
 
+  -- the running sum after the columns
   sum-columns : runningSum stored 16 16 % 65536 ≡ sumTo (summed (byte s)) 16 % 65536
-  sum-columns = runningSum-kept stored (summed (byte s)) 16 stored-kept 16 (le-refl 16) ∙ kept (runningSum-all (summed (byte s)) 16)
+  sum-columns =
+      runningSum-kept stored (summed (byte s)) 16 stored-kept 16 (le-refl 16) ∙ kept (runningSum-all (summed (byte s)) 16)
 
+  -- and the total
   total-columns : runningTotal stored 16 16 % 65536 ≡ sumTo (λ c. summed (byte s) c * (c + 1)) 16 % 65536
   total-columns =
       runningTotal-kept stored (summed (byte s)) 16 stored-kept 16 (le-refl 16) ∙ kept (runningTotal-all (summed (byte s)) 16)

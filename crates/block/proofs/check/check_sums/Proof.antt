@@ -44,15 +44,15 @@ returns c =
     let columns = over .before .before .before in
     let s = columns .before .before .before .args .s .now in
     let sums = over .over-columns .ensures in
-    let filling = columns .column-sums .ensures .1 in
-    let rows =
-    doubled-four _ (columns .column-sums .ensures .0)
-    (c .before .before .before .before .doubled .ensures)
-    (c .before .before .before .doubled2 .ensures)
-    (c .before .before .doubled3 .ensures)
-    (c .before .doubled4 .ensures) in (
+    let filling = columns .column-sums .ensures .1 in (
       sum-together s _ (zeros 16) filling (le-refl 16) (sums .0) (sums .1) (first .over-first .ensures .0),
-      total-together s _ (zeros 16) filling (le-refl 16) (sums .0) (sums .1) (first .over-first .ensures .1) rows (c .added .ensures),
+      total-together s _ (zeros 16) filling (le-refl 16) (sums .0) (sums .1) (first .over-first .ensures .1)
+          (doubled-four _ (columns .column-sums .ensures .0)
+          (c .before .before .before .before .doubled .ensures)
+          (c .before .before .before .doubled2 .ensures)
+          (c .before .before .doubled3 .ensures)
+          (c .before .doubled4 .ensures))
+          (c .added .ensures),
     )
 
 pub check-sums-spec : {M : Type 1} → statement M
