@@ -1,4 +1,7 @@
-pub mod Quarters
+pub mod Steps
+pub mod Boards
+pub mod Grid
+pub mod Together
 pub mod Stored
 pub mod Exchange
 pub mod Damage

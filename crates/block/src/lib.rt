@@ -1,6 +1,8 @@
 // A block of 512 bytes, and the numbers, letters and sums in it.
 pub mod bytes;
 pub mod check;
+mod columns;
+mod running;
 
 // How many bytes a block has.
 pub const SIZE: usize = 512;

@@ -1,8 +1,11 @@
 -- `check_holds` tells whether the last four bytes hold both sums: it compares what its callees ensure.
 -- Assumes nothing.
+use mathlib.Core.Path.{_∙_}
 use borrow.Author.Needs.{needs}
 use borrow.Author.Tests.{eq-eqb, ne-eqb}
 use Rattle.block.specs.Check.{checkHolds}
+use Rattle.block.proofs.Steps.{blockSum-first, blockTotal-second}
+use Rattle.block.proofs.Boards.{kept}
 use Rattle.block.proofs.check.check_holds.Statement.{statement}
 use Rattle.block.proofs.check.check_holds.Tie as tie
 
@@ -24,10 +27,11 @@ u16-at-requires-2 c κs = search needs
 returns : tie.Need-returns
 unfolding checkHolds
 returns c =
-    let sums = c .before .before .before .before .before .check-sums in
+    let b = c .before .before .before .before .before in
+    let s = b .before .before .args .s .now in
     rw (
-      ← (sums .ensures .0),
-      ← (sums .ensures .1),
+      ← (b .check-sums .ensures .0 ∙ kept (blockSum-first s)),
+      ← (b .check-sums .ensures .1 ∙ kept (blockTotal-second s)),
       ← (c .before .before .before .u16-at .ensures .0),
       ← (c .u16-at2 .ensures .0),
       eq-eqb _ _ (c .before .before .if1 .taken),
@@ -36,8 +40,10 @@ returns c =
 returns-2 : tie.Need-returns-2
 unfolding checkHolds
 returns-2 c =
+    let b = c .before .before .before in
+    let s = b .before .before .args .s .now in
     rw (
-      ← (c .before .before .before .check-sums .ensures .0),
+      ← (b .check-sums .ensures .0 ∙ kept (blockSum-first s)),
       ← (c .before .u16-at .ensures .0),
       ne-eqb _ _ (c .if1 .left),
     )
