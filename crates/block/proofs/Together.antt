@@ -15,7 +15,7 @@ use Rattle.laws.proofs.Sums.{sumTo-ext}
 use Rattle.laws.proofs.Fills.{getD-filled}
 use Rattle.block.specs.Bytes.{byte}
 use Rattle.block.specs.Running.{runningSum, runningTotal, blockSum, blockTotal}
-use Rattle.block.specs.Columns.{inColumn, columnSum, columnTotal}
+use Rattle.block.specs.inner.Columns.{inColumn, columnSum, columnTotal}
 use Rattle.block.proofs.Steps.{runningSum-all, runningTotal-all}
 use Rattle.block.proofs.Boards.{kept, kept-added, added-kept, runningSum-kept, runningTotal-kept}
 use Rattle.block.proofs.Grid.{summed, totalled, first-columns, second-columns}

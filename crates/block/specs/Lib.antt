@@ -1,4 +1,4 @@
 pub mod Bytes
 pub mod Check
 pub mod Running
-pub mod Columns
+pub mod inner

@@ -10,7 +10,7 @@ ghost use lib.ListN.{length, getD};
 ghost use Rattle.laws.specs.Sum.{sumTo};
 ghost use Rattle.laws.specs.Filled.{filled};
 ghost use Rattle.block.specs.Running.{runningSum, runningTotal};
-ghost use Rattle.block.specs.Columns.{inColumn, columnSum, columnTotal};
+ghost use Rattle.block.specs.inner.Columns.{inColumn, columnSum, columnTotal};
 
 // Runs over one column of bytes 28 to 507, from the last of its thirty rows back.
 fn over_rows(s: &[u8], column: usize) -> Running

@@ -5,7 +5,7 @@ use Prim.Native.Nat.{suc, _≤_, _+_, _*_, _-_}
 use native.Mathlib.Omega.{arith}
 use borrow.Author.Needs.{needs}
 use Rattle.block.specs.Bytes.{byte}
-use Rattle.block.specs.Columns.{inColumn}
+use Rattle.block.specs.inner.Columns.{inColumn}
 use Rattle.block.proofs.Boards.{Board, board-none, board-more, board-sum, board-total}
 use Rattle.block.proofs.columns.over_rows.Statement.{statement}
 use Rattle.block.proofs.columns.over_rows.Tie as tie
