@@ -71,7 +71,7 @@ enum { OZP_YEAR = 1, OZP_COST = 2, OZP_OFFSET = 3, OZP_OUTAGE = 4, OZP_REQUIREME
 typedef struct {
     uint64_t make_whole; /* of all rows, a day */
     uint64_t daily;      /* price times total, and all make-whole */
-    uint64_t year;       /* 365 times daily */
+    uint64_t year;       /* daily times the days of the delivery year */
     uint32_t kind;
     uint32_t total;
     uint32_t price;
