@@ -76,7 +76,7 @@ typedef struct { uint32_t year; ozp_value cost, offset, outage, requirement; } o
 /* A row of a book. With no block the offer is flexible. A stamp may be any number, also all ones. */
 typedef struct { uint64_t stamp; uint32_t resource, seller, quantity; ozp_value price, block; } ozp_row;
 
-/* What a book clears; amounts are of all rows, make_whole and daily by the day.
+/* What a book clears; amounts are of all rows, make_whole and daily by the day, year for the days of the delivery year.
  *
  *   kind          make_whole, daily, year   total     price      rows          number, place
  *   OZP_GIVEN     mills                     over 0    cents      the book's    no value

@@ -82,12 +82,12 @@ def row_lines(m, row, o):
         yield f"  make-whole 0: it commits {more}\n"
 
 
-def totals(m):
+def totals(m, days):
     whole = sum((m.price or 0) * (m.committed(o) - m.cleared(o)) for o in m.offers)
     daily = (m.price or 0) * m.x + whole
     why = "" if daily else ": with no price every amount is zero" if m.price is None else ": the price is zero"
     yield f"\nThe daily total is {dollars(daily)}{why}\n  of which make-whole {dollars(whole)}\n"
-    yield f"The year total is 365 times as much\n  {dollars(365 * daily)}\n"
+    yield f"The year total is {days} times as much\n  {dollars(days * daily)}\n"
 
 
 def pieces(book):
@@ -107,7 +107,7 @@ def pieces(book):
     yield from set_price(market)
     for row, o in enumerate(offers):
         yield from row_lines(market, row, o)
-    yield from totals(market)
+    yield from totals(market, outline.days(year))
 
 
 def page(book):
