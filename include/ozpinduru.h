@@ -131,6 +131,10 @@ ozp_curve_price ozp_price_at(ozp_parameters parameters, uint32_t k);
  * OZP_NO_AMOUNT, which no product is. */
 uint64_t ozp_make_whole(uint32_t kind, uint32_t price, uint32_t cleared, uint32_t committed);
 
+/* The days of the delivery year that starts on 1 June of `year`: 366 where the February of the next year has 29 days, else 365;
+ * for any year. The year total of an answer is the daily total times the days of the book's year. */
+uint32_t ozp_days(uint32_t year);
+
 /* The text that the program `clear` prints for these bytes; a refusal is a text too. */
 ozp_text ozp_report(const uint8_t *book, size_t book_bytes, uint8_t *room, size_t room_bytes);
 
