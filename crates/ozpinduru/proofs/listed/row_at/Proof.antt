@@ -1,13 +1,14 @@
 -- `row_at` shows the offer that a row's own bytes hold.
 -- Assumes nothing.
 use mathlib.Core.Path.{_∙_}
+use native.Mathlib.Omega.{arith}
 use Rattle.ozpinduru.proofs.Listings.{row-inside, row-read}
 use borrow.Author.Needs.{needs}
 use Rattle.ozpinduru.proofs.listed.row_at.Statement.{statement}
 use Rattle.ozpinduru.proofs.listed.row_at.Tie as tie
 
 row-bytes-requires : tie.Need-row-bytes-requires
-row-bytes-requires c κs = row-inside _ _ (c .before .pre)
+row-bytes-requires c κs = omega (arith, row-inside _ _ (c .before .pre))
 
 offer-in-requires : tie.Need-offer-in-requires
 offer-in-requires c κs = search needs
