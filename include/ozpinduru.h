@@ -76,7 +76,7 @@ typedef struct { uint32_t year; ozp_value cost, offset, outage, requirement; } o
 /* A row of a book. With no block the offer is flexible. A stamp may be any number, also all ones. */
 typedef struct { uint64_t stamp; uint32_t resource, seller, quantity; ozp_value price, block; } ozp_row;
 
-/* What a book clears; amounts are of all rows, make_whole and daily by the day.
+/* What a book clears; amounts are of all rows, make_whole and daily by the day, year for the days of the delivery year.
  *
  *   kind          make_whole, daily, year   total     price      rows          number, place
  *   OZP_GIVEN     mills                     over 0    cents      the book's    no value
@@ -130,6 +130,10 @@ ozp_curve_price ozp_price_at(ozp_parameters parameters, uint32_t k);
  * OZP_GIVEN price times (committed minus cleared), 0 where committed is less; with OZP_NONE 0; with any other kind
  * OZP_NO_AMOUNT, which no product is. */
 uint64_t ozp_make_whole(uint32_t kind, uint32_t price, uint32_t cleared, uint32_t committed);
+
+/* The days of the delivery year that starts on 1 June of `year`: 366 where the February of the next year has 29 days, else 365;
+ * for any year. The year total of an answer is the daily total times the days of the book's year. */
+uint32_t ozp_days(uint32_t year);
 
 /* The text that the program `clear` prints for these bytes; a refusal is a text too. */
 ozp_text ozp_report(const uint8_t *book, size_t book_bytes, uint8_t *room, size_t room_bytes);

@@ -10,6 +10,7 @@ The reference curve falls by 125 cents a tenth from 50,000 at 9,900 to 18,750 at
 """
 from write_book import TESTS, THREE, book, files_beside, keep, many, offer
 
+NINE_THOUSAND = "cleared 9000 / price 50000 / 21 9000 9000 0 / daily 450000000"
 NOTHING = "price - / 21 0 0 0 / daily 0 / year 0"
 UNDER = offer(11, 10_000, 9_900)
 LARGEST = 2**32 - 1
@@ -28,8 +29,7 @@ def reference_cases():
     yield "reference-printed-example", book(THREE), \
         "cleared 10000 / price 37500 / 11 9900 9900 0 / 12 67 67 0 / 13 33 50 637500 / daily 375637500 / year 137107687500"
     yield "no-offers", book([]), "cleared 0 / price - / daily 0 / year 0"
-    yield "9000-at-0-all-clears", book(one(9_000)), \
-        "cleared 9000 / price 50000 / 21 9000 9000 0 / daily 450000000 / year 164250000000"
+    yield "9000-at-0-all-clears", book(one(9_000)), f"{NINE_THOUSAND} / year 164250000000"
     yield "11000-at-0-price-is-a-real-zero", book(one(11_000)), \
         "cleared 10450 / price 0 / 21 10450 10450 0 / daily 0 / year 0"
     yield "100-at-50000-clears", book(one(100, 50_000)), \
@@ -57,8 +57,7 @@ def curve_cases():
         "cleared 9000 / price 87500 / 21 9000 9000 0 / daily 787500000 / year 287437500000"
     yield "offset-0-p2-37500", book(one(10_150), offset=0), \
         "cleared 10150 / price 37500 / 21 10150 10150 0 / daily 380625000 / year 138928125000"
-    yield "offset-146000-p1-50000", book(one(9_000), offset=146_000), \
-        "cleared 9000 / price 50000 / 21 9000 9000 0 / daily 450000000 / year 164250000000"
+    yield "offset-146000-p1-50000", book(one(9_000), offset=146_000), f"{NINE_THOUSAND} / year 164250000000"
     yield "offset-146000-halfway-to-p2", book(one(10_025), offset=146_000), \
         "cleared 10025 / price 25000 / 21 10025 10025 0 / daily 250625000 / year 91478125000"
     yield "offset-146000-p2-0", book(one(10_150), offset=146_000), \
@@ -101,8 +100,7 @@ def tie_cases():
 
 
 def block_cases():
-    yield "block-wholly-cleared", book(one(9_000, block=9_000)), \
-        "cleared 9000 / price 50000 / 21 9000 9000 0 / daily 450000000 / year 164250000000"
+    yield "block-wholly-cleared", book(one(9_000, block=9_000)), f"{NINE_THOUSAND} / year 164250000000"
     yield "block-under-and-block-over-the-cleared-part", \
         book([UNDER, offer(12, 37_500, 200, block=60), offer(13, 37_500, 100, block=100)]), \
         "cleared 10000 / price 37500 / 11 9900 9900 0 / 12 67 67 0 / 13 33 100 2512500 / daily 377512500 / year 137792062500"
@@ -114,6 +112,13 @@ def block_cases():
     yield "block-over-the-cleared-part-at-price-0", book(one(11_000, block=11_000)), \
         "cleared 10450 / price 0 / 21 10450 11000 0 / daily 0 / year 0"
     yield "block-where-nothing-clears", book(one(100, 50_001, block=100)), f"cleared 0 / {NOTHING}"
+
+
+def year_cases():
+    """The delivery year that starts in 2027 has the 29 February of 2028; 2100 has none."""
+    for year, days in (2026, 365), (2027, 366), (2028, 365), (2099, 365):
+        yield f"year-{year}-of-{days}-days", book(one(9_000), year=year), f"{NINE_THOUSAND} / year {days * 450_000_000}"
+    yield "year-2027-where-nothing-clears", book(one(100, 50_001), year=2027), f"cleared 0 / {NOTHING}"
 
 
 def large_cases():
@@ -144,7 +149,7 @@ def refused_cases():
 
 def cases():
     """Each book's name, its bytes, and what is printed of it."""
-    for part in (reference_cases, curve_cases, tie_cases, block_cases, large_cases, refused_cases):
+    for part in (reference_cases, curve_cases, tie_cases, block_cases, year_cases, large_cases, refused_cases):
         for name, data, lines in part():
             yield name, data, f"{lines}\n".replace(" / ", "\n")
 

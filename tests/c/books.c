@@ -34,8 +34,8 @@ static void judge(const char *folder, const char *line)
         return;
     }
     expect_rows(book, bytes, rows, name);
-    expect_clearing(clear(book, bytes, &out, ENTRIES, ENTRIES), &out, rows, name);
-    expect_clearing(clear(book, bytes, &out, rows, rows), &out, rows, name);
+    expect_clearing(clear(book, bytes, &out, ENTRIES, ENTRIES), &out, year_of(book), rows, name);
+    expect_clearing(clear(book, bytes, &out, rows, rows), &out, year_of(book), rows, name);
     if (rows > 0) {
         expect_refusal(clear(book, bytes, &out, rows - 1, rows - 1), &out, OZP_SHORT_BUFFER, 1, name);
         expect_refusal(clear(book, bytes, &out, rows, rows - 1), &out, OZP_SHORT_BUFFER, 2, name);

@@ -51,8 +51,13 @@ static int untouched(const struct buffers *out, size_t from)
     return 1;
 }
 
-/* a clearing, priced or not, with the bookkeeping that its own rows show */
-void expect_clearing(ozp_answer a, const struct buffers *out, size_t rows, const char *name)
+uint32_t year_of(const uint8_t *book)
+{
+    return book[6] + 256u * book[7];
+}
+
+/* a clearing of a year, priced or not, with the bookkeeping that its own rows show */
+void expect_clearing(ozp_answer a, const struct buffers *out, uint32_t year, size_t rows, const char *name)
 {
     uint64_t total = 0, whole = 0;
     size_t i, short_of = 0;
@@ -69,7 +74,7 @@ void expect_clearing(ozp_answer a, const struct buffers *out, size_t rows, const
     expect(a.total == total, name, "the total is what the rows clear");
     expect(a.make_whole == whole, name, "all make-whole is what the rows are paid");
     expect(a.daily == (a.kind == OZP_NONE ? 0 : (uint64_t)a.price * a.total) + whole, name, "daily total");
-    expect(a.year == 365 * a.daily, name, "year total");
+    expect(a.year == ozp_days(year) * a.daily, name, "year total");
     expect(a.number == OZP_NO_VALUE && a.place == OZP_NO_VALUE, name, "a clearing has no refusal");
     expect(untouched(out, rows), name, "entries past the last row");
 }

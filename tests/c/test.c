@@ -22,6 +22,7 @@ int main(int count, char **words)
     reading(words[1]);
     curve();
     make_whole();
+    days(words[1]);
     texts(words[1]);
     threads(words[1]);
     if (count == 4)

@@ -53,7 +53,7 @@ void threads(const char *folder)
         pthread_join(thread[k], NULL);
     pthread_attr_destroy(&small);
     for (k = 0; k < 2; k++) {
-        expect_clearing(work[k].answers[0], &work[k].out, OZP_ROWS, name);
+        expect_clearing(work[k].answers[0], &work[k].out, year_of(book), OZP_ROWS, name);
         for (i = 0; i < TIMES; i++)
             expect(same(work[k].answers[i], work[0].answers[0]), name, "one answer in every thread");
     }

@@ -37,6 +37,8 @@ def books():
     yield HERE / "offer-sets-the-price.book", book([offer(61, 10_000, 10_000), offer(62, 37_450, 500)])
     # the curve sets it where no price has more
     yield HERE / "curve-sets-the-price.book", book([offer(71, 0, 9_000)], offset=0, outage=0)
+    # a delivery year with a 29 February in it
+    yield HERE / "year-of-366-days.book", book(FOUR, year=2027)
     # the other refusals
     yield HERE / "refused-1.book", book([])[:-1]
     yield HERE / "refused-2.book", damaged(book(FOUR), [(512 + 40, b"\1")])

@@ -4,9 +4,12 @@
     parameters(book)            year, [C, E, F, R] with None where one is missing, number of offers
     offers_in(book, count)      the offers
     fault(year, values, offers) the refusal by 4 to 8, or None
+    days(year)                  the days from 1 June of the year to 31 May of the next
+    extra_day(year)             the calendar year of the 29 February between them, or None
     Market(values, offers)      the curve, the total, the price, and what each row clears
 """
 import collections
+import datetime
 import struct
 
 Offer = collections.namedtuple("Offer", "resource seller price quantity block stamp")
@@ -73,6 +76,15 @@ def fault(year, values, offers):
             return 8, row
         seen.add(o.resource)
     return None
+
+
+def days(year):
+    return (datetime.date(year + 1, 6, 1) - datetime.date(year, 6, 1)).days
+
+
+def extra_day(year):
+    spans = (datetime.date(year, 6, 1) + datetime.timedelta(day) for day in range(days(year)))
+    return next((day.year for day in spans if (day.month, day.day) == (2, 29)), None)
 
 
 def nearest(a, b):

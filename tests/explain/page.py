@@ -82,12 +82,14 @@ def row_lines(m, row, o):
         yield f"  make-whole 0: it commits {more}\n"
 
 
-def totals(m):
+def totals(m, year):
     whole = sum((m.price or 0) * (m.committed(o) - m.cleared(o)) for o in m.offers)
     daily = (m.price or 0) * m.x + whole
     why = "" if daily else ": with no price every amount is zero" if m.price is None else ": the price is zero"
     yield f"\nThe daily total is {dollars(daily)}{why}\n  of which make-whole {dollars(whole)}\n"
-    yield f"The year total is 365 times as much\n  {dollars(365 * daily)}\n"
+    days, extra = outline.days(year), outline.extra_day(year)
+    why = f"{'no 29 February' if extra is None else f'29 February {extra}'} lies between 1 June {year} and 31 May {year + 1}"
+    yield f"The year total is {days} times as much:\n  {why}\n  {dollars(days * daily)}\n"
 
 
 def pieces(book):
@@ -107,7 +109,7 @@ def pieces(book):
     yield from set_price(market)
     for row, o in enumerate(offers):
         yield from row_lines(market, row, o)
-    yield from totals(market)
+    yield from totals(market, year)
 
 
 def page(book):

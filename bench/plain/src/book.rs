@@ -12,7 +12,7 @@ const MOST_OFFERS: usize = 600;
 
 /// The values of block 0; those that are not marked in `marks` are 0.
 pub struct Parameters {
-    year: u16,
+    pub year: u16,
     cost: u32,
     offset: u32,
     outage: u32,

@@ -66,7 +66,14 @@ fn try_clear<M: Manner>(bytes: &[u8], cleared: &mut [u32], committed: &mut [u32]
     let price = u64::from(auction.price.unwrap_or(0));
     let make_whole = price * extra;
     let daily = price * u64::from(auction.total) + make_whole;
-    Ok(Clearing { total: auction.total, price: auction.price, make_whole, daily, year: 365 * daily })
+    Ok(Clearing { total: auction.total, price: auction.price, make_whole, daily, year: days(book.parameters.year) * daily })
+}
+
+/// The days of a delivery year, whose February stands in its second calendar year.
+fn days(year: u16) -> u64 {
+    let next = year + 1;
+    let leap = next.is_multiple_of(4) && (!next.is_multiple_of(100) || next.is_multiple_of(400));
+    365 + u64::from(leap)
 }
 
 /// Fills in what is committed; returns by how much it passes what is cleared.

@@ -4,6 +4,7 @@ Quantities are tenths of a megawatt, prices cents per MW-day, amounts of money m
 there is None, never 0: a clearing with no price cleared nothing, and an offer whose price is missing is unpriced.
 """
 from ._book import Book, Offer, Parameters, read
+from ._calendar import days
 from ._clearing import Clearing, Columns, Quote, Row, clear, clear_columns, quote
 from ._curve import Curve, curve, price_at
 from ._refusal import Fault, Refusal, report, version, words
@@ -11,5 +12,5 @@ from ._refusal import Fault, Refusal, report, version, words
 __version__ = "0.2.0"
 __all__ = [
     "Book", "Clearing", "Columns", "Curve", "Fault", "Offer", "Parameters", "Quote", "Refusal", "Row",
-    "clear", "clear_columns", "curve", "price_at", "quote", "read", "report", "version", "words",
+    "clear", "clear_columns", "curve", "days", "price_at", "quote", "read", "report", "version", "words",
 ]

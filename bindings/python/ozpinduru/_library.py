@@ -44,6 +44,7 @@ def _declared(c: ctypes.CDLL) -> ctypes.CDLL:
         ("curve", CurvePoints, [Parameters]),
         ("price_at", CurvePrice, [Parameters, _word]),
         ("make_whole", _amount, [_word] * 4),
+        ("days", _word, [_word]),
         ("report", Text, book + buffer),
         ("words", Text, [_word] + buffer),
         ("version", _word, []),

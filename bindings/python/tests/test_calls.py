@@ -11,7 +11,7 @@ from dataclasses import FrozenInstanceError, replace
 
 from shared import PYTHON, ROOT, reference, verdicts
 from ozpinduru import (Book, Clearing, Columns, Curve, Fault, Offer, Parameters, Quote, Refusal, Row, clear, clear_columns, curve,
-                       price_at, quote, read, report, version, words)
+                       days, price_at, quote, read, report, version, words)
 from write_book import REFERENCE, THREE, book, many, offer
 
 GIVEN = Parameters(**REFERENCE)
@@ -107,6 +107,17 @@ class Curves(unittest.TestCase):
                 if field > 1:
                     self.assertRaisesRegex(Refusal, f"^refused 4 at field {field} ", call, replace(GIVEN, **{name: None}))
             self.assertRaisesRegex(Refusal, r"4 at field 2 \(cost of new entry\)", call, Parameters(-1, None, -1, None, None))
+
+
+class Days(unittest.TestCase):
+    def test_days(self):
+        years = {0: 365, 2026: 365, 2027: 366, 2028: 365, 2099: 365, 2100: 365, 2399: 366, 2**32 - 1: 366}
+        self.assertEqual({year: days(year) for year in years}, years)
+        for year in (2026, 2027, 2099):
+            answer = quote(book(THREE, year=year))
+            self.assertEqual(answer.year, days(year) * answer.daily)
+        for year in (-1, 2**32):
+            self.assertRaisesRegex(ValueError, f"^{year} is no year$", days, year)
 
 
 class Words(unittest.TestCase):

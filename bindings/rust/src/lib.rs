@@ -20,6 +20,7 @@
 //! ```
 
 mod book;
+mod calendar;
 mod clearing;
 mod curve;
 pub mod raw;
@@ -28,6 +29,7 @@ mod text;
 mod units;
 
 pub use book::{read, Book, Offer, Parameters, MOST_ROWS};
+pub use calendar::days;
 pub use clearing::{clear, clear_into, quote, Clearing, Quote, Row};
 pub use curve::{curve, price_at, Curve, Point};
 pub use refusal::{Buffer, Field, Refusal};

@@ -85,6 +85,7 @@ extern "C" {
     pub fn ozp_curve(parameters: Parameters) -> CurvePoints;
     pub fn ozp_price_at(parameters: Parameters, k: u32) -> CurvePrice;
     pub fn ozp_make_whole(kind: u32, price: u32, cleared: u32, committed: u32) -> u64;
+    pub fn ozp_days(year: u32) -> u32;
     pub fn ozp_report(book: *const u8, book_bytes: usize, room: *mut u8, room_bytes: usize) -> Text;
     pub fn ozp_words(number: u32, room: *mut u8, room_bytes: usize) -> Text;
     pub fn ozp_version() -> u32;

@@ -1,6 +1,6 @@
 //! The outline's reference book through the C interface.
 
-use ozpinduru::{clear, clear_into, curve, price_at, quote, read, report, version, words};
+use ozpinduru::{clear, clear_into, curve, days, price_at, quote, read, report, version, words};
 use ozpinduru::{Buffer, CentsPerMwDay, DollarsPerMwYear, Field, Mills, Offer, Parameters, Point, Refusal, Row, Tenths};
 use std::fs;
 use std::path::Path;
@@ -83,6 +83,14 @@ fn the_curve_has_its_points_and_prices() {
         assert_eq!(price_at(&REFERENCE, Tenths(k)), Ok(Some(CentsPerMwDay(price))));
     }
     assert_eq!([10_451, u32::MAX].map(|k| price_at(&REFERENCE, Tenths(k))), [Ok(None); 2]);
+}
+
+#[test]
+fn a_delivery_year_has_the_february_of_the_next_year() {
+    let years = [0, 2026, 2027, 2028, 2099, 2100, 2399, u32::MAX];
+    assert_eq!(years.map(days), [365, 365, 366, 365, 365, 365, 366, 366]);
+    let (daily, year) = quote(&book()).map(|quote| (quote.daily.0, quote.year.0)).unwrap();
+    assert_eq!(year, daily * u64::from(days(2026)));
 }
 
 #[test]

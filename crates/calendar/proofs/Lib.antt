@@ -1,1 +1,3 @@
+pub mod Days
+pub mod Centuries
 pub mod Decided

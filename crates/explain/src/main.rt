@@ -13,7 +13,8 @@ use input::read_input;
 use libc::STDERR_FILENO;
 use libc::STDIN_FILENO;
 use page::stated::say_stated;
-use page::totals::say_totals;
+use page::totals::say_daily;
+use page::totals::say_year;
 use refused::explain_refusal;
 use sale::Clearing;
 use workings::read::Head;
@@ -31,7 +32,7 @@ fn explain_head(book: &[u8]) -> bool {
 fn explain_totals(book: &[u8], c: Clearing) -> bool {
     if let Head::Stated(p, _) = head_of(book) {
         let price = c.price;
-        return say_totals(price, c.daily, c.make_whole, days_of(p.year), c.year);
+        return say_daily(price, c.daily, c.make_whole) && say_year(p.year, days_of(p.year), c.year);
     }
     true
 }

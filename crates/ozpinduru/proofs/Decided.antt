@@ -30,6 +30,7 @@ use Rattle.ozpinduru.specs.declared.structs.OzpRow.{OzpRow}
 use Rattle.ozpinduru.specs.declared.structs.OzpText.{OzpText}
 use Rattle.ozpinduru.proofs.export.ozp_clear.Reads as ozp-clear
 use Rattle.ozpinduru.proofs.export.ozp_curve.Reads as ozp-curve
+use Rattle.ozpinduru.proofs.export.ozp_days.Reads as ozp-days
 use Rattle.ozpinduru.proofs.export.ozp_make_whole.Reads as ozp-make-whole
 use Rattle.ozpinduru.proofs.export.ozp_price_at.Reads as ozp-price-at
 use Rattle.ozpinduru.proofs.export.ozp_quote.Reads as ozp-quote
@@ -84,6 +85,10 @@ pub ozp-make-whole-decided : (kind price cleared committed r s : ℕ)
     → ozp-make-whole.Post tt (kind, (price, (cleared, (committed, tt)))) s (kind, (price, (cleared, (committed, tt))))
     → r ≡ s
 ozp-make-whole-decided kind price cleared committed r s e f = e ∙ sym f
+
+-- the days of a delivery year, by the contract of `ozp_days`
+pub ozp-days-decided : (year r s : ℕ) → ozp-days.Post tt (year, tt) r (year, tt) → ozp-days.Post tt (year, tt) s (year, tt) → r ≡ s
+ozp-days-decided year r s e f = e ∙ sym f
 
 -- the version, by the contract of `ozp_version`
 pub ozp-version-decided : (r s : ℕ) → ozp-version.Post tt tt r tt → ozp-version.Post tt tt s tt → r ≡ s

@@ -7,6 +7,7 @@ use crate::structs::OzpAnswer;
 use crate::structs::OzpCurve;
 use crate::structs::OzpParameters;
 use crate::structs::OzpPrice;
+use calendar::days_of;
 use call::clear;
 use call::quote;
 use curve::price_at;
@@ -18,6 +19,7 @@ use units::CentsPerMwDay;
 use values::Verdict;
 ghost use mathlib.Core.Path.{_≡_};
 ghost use lib.ListN.{length};
+ghost use Rattle.calendar.specs.Year.{daysOf};
 ghost use Rattle.layout.specs.Read.{contentsOf};
 ghost use Rattle.call.specs.Answer.{answerOf};
 ghost use Rattle.ozpinduru.specs.Export.{Returned, exported, exportedMakeWhole, version};
@@ -81,6 +83,14 @@ pub extern "C" fn ozp_make_whole(kind: u32, price: u32, cleared: u32, committed:
         return make_whole(ClearingPrice::NoPrice, cleared, committed);
     }
     NO_AMOUNT
+}
+
+// The days of the delivery year that starts on 1 June of a calendar year.
+#[no_mangle]
+pub extern "C" fn ozp_days(year: u32) -> u32
+    ensures { λ r. ⌜ r ≡ daysOf year ⌝ }
+{
+    days_of(year) as u32
 }
 
 // The version of this interface: a million for the first number, a thousand for the second, and the third.

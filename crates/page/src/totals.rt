@@ -10,15 +10,26 @@ fn words_for(price: ClearingPrice, daily: u64) -> u64 {
     }
 }
 
-// Says the daily total, its make-whole, and the total of a year of so many days.
-pub fn say_totals(price: ClearingPrice, daily: u64, make_whole: u64, days: u64, year: u64) -> bool {
+// Says the daily total and its make-whole.
+pub fn say_daily(price: ClearingPrice, daily: u64, make_whole: u64) -> bool {
     say(
         b"
 The daily total is & dollars (# mills)[|: the price is zero|: with no price every amount is zero]
   of which make-whole & dollars (# mills)
-The year total is # times as much
+",
+        &[daily, words_for(price, daily), make_whole],
+    )
+}
+
+// Says the total of the delivery year that starts in a calendar year, of so many days, and why it has so many.
+pub fn say_year(year: u32, days: u64, total: u64) -> bool {
+    let first = year as u64;
+    let next = first + 1;
+    say(
+        b"The year total is # times as much:
+  [no 29 February|29 February #] lies between 1 June # and 31 May #
   & dollars (# mills)
 ",
-        &[daily, words_for(price, daily), make_whole, days, year],
+        &[days, (days == 366) as u64, next, first, next, total],
     )
 }

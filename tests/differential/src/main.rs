@@ -5,6 +5,7 @@
 
 mod compare;
 mod curve;
+mod days;
 mod layouts;
 mod reading;
 mod tally;

@@ -6,13 +6,14 @@
 //! - `row`: what the reader hands back for a row.
 //! - `curve`, `price_at`: the requirement curve.
 //!
-//! The rest by module: `book` reads and checks bytes, `limits` holds the ranges, `clearing` is the auction as a function of a
+//! The rest by module: `book` reads and checks bytes, `limits` holds the ranges, `calendar` the days of delivery years, `clearing` is the auction as a function of a
 //! falling curve and priced offers, `make` writes books, `random` makes books and calls from a seed.
 //!
 //! Every sentence of the outline is written as directly as it can be read. Speed comes second. `cargo test --release` here runs
 //! the outline's cases, an exhaustive search over small auctions, and the books of crates/verdicts/data.
 
 pub mod book;
+pub mod calendar;
 pub mod clearing;
 pub mod curve;
 pub mod limits;
@@ -115,7 +116,7 @@ fn settled(book: &book::Book) -> Clearing {
     let rows: Vec<Row> = book.offers.iter().zip(amounts).map(|(offer, cleared)| paid(offer, cleared, price)).collect();
     let make_whole = rows.iter().map(|row| row.make_whole).sum();
     let daily = u64::from(price.unwrap_or(0)) * u64::from(total) + make_whole;
-    Clearing { total, price, make_whole, daily, year: 365 * daily, rows }
+    Clearing { total, price, make_whole, daily, year: calendar::days(book.parameters.year) * daily, rows }
 }
 
 fn priced(offer: &book::Offer) -> Priced {

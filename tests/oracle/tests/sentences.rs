@@ -50,6 +50,14 @@ fn committed_past_cleared_at_a_real_zero() {
 }
 
 #[test]
+fn days_of_the_delivery_year() {
+    for (year, days) in [(2026, 365), (2027, 366), (2028, 365), (2031, 366), (2095, 366), (2099, 365)] {
+        let clearing = cleared(&Parameters { year, ..reference() }, &[offer(1, 9_000, 0, 1)]);
+        assert_eq!(clearing.year, days * clearing.daily, "{year}");
+    }
+}
+
+#[test]
 fn first_price_of_zero() {
     let cheapest = Parameters { cost: Some(1), offset: Some(0), outage: Some(0), requirement: Some(1_000), year: 2099 };
     let clearing = cleared(&cheapest, &[offer(1, 2_000, 0, 1)]);
