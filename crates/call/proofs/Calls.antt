@@ -88,7 +88,8 @@ module _ (b : List ℕ) (cleared committed : ℕ) where
       sym (andThen-refused (firstFault b) _ number place
       (first-before b ∙ andThen-refused (beforeRows b) _ number place (sym e ∙ f)))
 
-  long-enough : length (contentsOf b .offers) ≤ cleared → length (contentsOf b .offers) ≤ committed
+  -- buffers that are long enough
+  pub long-enough : length (contentsOf b .offers) ≤ cleared → length (contentsOf b .offers) ≤ committed
       → bufferFault (length (contentsOf b .offers)) cleared committed ≡ Passed
   unfolding bufferFault
   long-enough h k =

@@ -1,4 +1,5 @@
 pub mod Calls
+pub mod Empty
 pub mod Outcomes
 pub mod Decided
 pub mod Refusing

@@ -3,15 +3,11 @@
 use mathlib.Core.Path.{_≡_, ap, sym, _∙_}
 use mathlib.Core.List.{List}
 use mathlib.Core.Option.{none}
-use Prim.Native.Nat.{ℕ, _*_}
-use lib.ListN.{length}
-use native.Mathlib.Nat.{mul-zero}
+use Prim.Native.Nat.{ℕ}
 use contract.Lifetimes.{Lfts}
 use denote.Ref.{RefT, now}
-use Rattle.laws.proofs.Sums.{sumTo-none}
 use Rattle.calendar.specs.Year.{daysOf}
 use Rattle.auction.proofs.Price.{price-none}
-use Rattle.values.specs.Contents.{Contents}
 use Rattle.market.specs.Price.{asPrice}
 use Rattle.layout.specs.Read.{contentsOf}
 use Rattle.sale.specs.Auction.{offersOf, demand, total, price, rowMakeWhole, allMakeWhole, dailyTotal, yearTotal}
@@ -21,20 +17,8 @@ use Rattle.sale.specs.Payment.{clearingOf}
 use Rattle.sale.specs.declared.Clearing.{Clearing}
 use Rattle.call.specs.declared.Answer.the-variants.{Cleared as Answer·Cleared}
 use Rattle.call.proofs.Decided.{Called, call-outcome}
+use Rattle.call.proofs.Empty.{make-whole-none, daily-none, year-none}
 use Rattle.call.proofs.Outcomes.{cleared-clearing}
-
-module _ (c : Contents) (e : price c ≡ none) where
-  make-whole-none : allMakeWhole c ≡ 0
-  unfolding allMakeWhole rowMakeWhole
-  make-whole-none = sumTo-none _ (length (c .offers)) (λ i l. rw e)
-
-  daily-none : dailyTotal c ≡ 0
-  unfolding dailyTotal
-  daily-none = rw (e, make-whole-none)
-
-  year-none : yearTotal c ≡ 0
-  unfolding yearTotal
-  year-none = ap (λ (m : ℕ). daysOf (c .parameters .year) * m) daily-none ∙ mul-zero (daysOf (c .parameters .year))
 
 module _ (κs : Lfts 3) (book cleared₀ committed₀ cleared₁ committed₁ : RefT (List ℕ)) (k : Clearing)
     (called : Called κs book cleared₀ committed₀ cleared₁ committed₁ (Answer·Cleared k)) where

@@ -2,17 +2,19 @@
 use crate::Answer;
 use book::opened;
 use book::rows::read_rows;
+use market::price::ClearingPrice;
+use sale::Clearing;
 use sale::payment::clearing;
 use values::Verdict;
 use values::and_then;
 use values::head::Parameters;
 ghost use mathlib.Core.Path.{_≡_};
-ghost use Prim.Native.Nat.{_≤_};
 ghost use Rattle.values.specs.declared.Verdict.the-variants.{Passed};
 ghost use Rattle.layout.specs.Form.{lengthFault};
 ghost use Rattle.columns.specs.inner.Columns.{columnsOf, Blank};
 ghost use Rattle.book.specs.inner.Opening.{Opened};
 ghost use Rattle.call.specs.Answer.{Outcome, bufferFault};
+ghost use Rattle.call.specs.inner.None.{noneCleared};
 
 // 9: the result buffer that is too short, the cleared one first.
 fn buffer_fault(offers: usize, cleared: usize, committed: usize) -> Verdict
@@ -73,37 +75,17 @@ fn clear_rows(
     ))
 }
 
-// The most rows of a book that is cleared in small columns: one block of them.
-const FEW: u32 = 15;
-
-// Clears a book of few rows.
-fn clear_few(
-    book: &[u8],
-    p: Parameters,
-    rows: u32,
-    cleared: &mut [u32],
-    committed: &mut [u32],
-) -> Answer
-    requires { ⌜ Opened (now book) p rows × (rows ≤ 15) ⌝ }
-    ensures { λ r. ⌜ Outcome (now (book .entry)) (now (cleared .entry)) (now (committed .entry)) r (now (cleared .exit)) (now (committed .exit)) ⌝ }
+// What a book of no rows clears: nothing, so there is no price and nothing is paid.
+fn clear_none() -> Clearing
+    ensures { λ r. ⌜ r ≡ noneCleared ⌝ }
 {
-    let mut prices = [0u32; 15];
-    let mut quantities = [0u32; 15];
-    let mut leasts = [0u32; 15];
-    let mut resources = [0u32; 15];
-    let mut stamps = [0u64; 15];
-    clear_rows(
-        book,
-        p,
-        rows,
-        &mut prices,
-        &mut quantities,
-        &mut leasts,
-        &mut resources,
-        &mut stamps,
-        cleared,
-        committed,
-    )
+    Clearing {
+        total: 0,
+        price: ClearingPrice::NoPrice,
+        make_whole: 0,
+        daily: 0,
+        year: 0,
+    }
 }
 
 // Clears a book of any number of rows.
@@ -148,9 +130,8 @@ pub(crate) fn clear_measured(book: &[u8], cleared: &mut [u32], committed: &mut [
     }
     let p = head.parameters;
     let rows = head.rows;
-    if rows <= FEW {
-        clear_few(book, p, rows, cleared, committed)
-    } else {
-        clear_many(book, p, rows, cleared, committed)
+    if rows == 0 {
+        return Answer::Cleared(clear_none());
     }
+    clear_many(book, p, rows, cleared, committed)
 }

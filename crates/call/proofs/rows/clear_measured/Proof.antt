@@ -4,6 +4,7 @@ use mathlib.Core.Path.{sym, _∙_}
 use borrow.Author.Needs.{needs}
 use Rattle.book.specs.inner.Opening.{Opened}
 use Rattle.call.proofs.Calls.{fault-before, outcome-refused}
+use Rattle.call.proofs.Empty.{outcome-empty}
 use Rattle.call.proofs.rows.clear_measured.Statement.{statement}
 use Rattle.call.proofs.rows.clear_measured.Tie as tie
 
@@ -33,8 +34,11 @@ passed c =
       rows = told .rows;
     }
 
-clear-few-requires : tie.Need-clear-few-requires
-clear-few-requires c κs = (passed (c .before .before .before .before), search needs)
+clear-none-requires : tie.Need-clear-none-requires
+clear-none-requires c κs = search needs
+
+returns-2 : tie.Need-returns-2
+returns-2 c = outcome-empty _ _ _ _ _ _ (passed (c .before .before .before)) (search needs) (c .clear-none .ensures)
 
 clear-many-requires : tie.Need-clear-many-requires
 clear-many-requires c κs = passed (c .before .before .before .before)
@@ -44,15 +48,6 @@ same-length c = search needs
 
 same-length-2 : tie.Need-same-length-2
 same-length-2 c = search needs
-
-returns-2 : tie.Need-returns-2
-returns-2 c = search needs
-
-same-length-3 : tie.Need-same-length-3
-same-length-3 c = search needs
-
-same-length-4 : tie.Need-same-length-4
-same-length-4 c = search needs
 
 returns-3 : tie.Need-returns-3
 returns-3 c = search needs
@@ -65,11 +60,9 @@ clear-measured-spec =
     enum-known-fault
     returns
     enum-told
-    clear-few-requires
+    clear-none-requires
+    returns-2
     clear-many-requires
     same-length
     same-length-2
-    returns-2
-    same-length-3
-    same-length-4
     returns-3)
