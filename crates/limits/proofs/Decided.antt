@@ -1,8 +1,8 @@
 -- The contracts of the limits leave one answer: any two that a contract allows for the same arguments coincide, wherever the
 -- bytes and the resource numbers lie.
 --
--- In order: 4 by the marks and in a block 0, numbers within limits, 5, 6 and 7 of an offer, 8. `fresh_rows` has no such law,
--- and no caller outside: its answer only says where the search for a repeat may start.
+-- In order: 4 by the marks and in a block 0, numbers within limits, 5, 4 and 5 of parameters outside a book, 6 and 7 of an
+-- offer, 8. `fresh_rows` has no such law, and no caller outside: its answer only says where the search for a repeat may start.
 -- Assumes nothing.
 use mathlib.Core.Path.{_≡_, sym, ap, _∙_}
 use mathlib.Core.Bool.{Bool}
@@ -24,6 +24,7 @@ use Rattle.limits.proofs.parameters.missing_in.Reads as missing-in
 use Rattle.limits.proofs.parameters.within.Reads as within
 use Rattle.limits.proofs.parameters.given_within.Reads as given-within
 use Rattle.limits.proofs.parameters.parameter_fault.Reads as parameter-fault
+use Rattle.limits.proofs.given.parameters_verdict.Reads as parameters-verdict
 use Rattle.limits.proofs.offers.offer_fault.Reads as offer-fault
 use Rattle.limits.proofs.repeats.first_repeat.Reads as first-repeat
 use Rattle.limits.proofs.repeats.with_repeats.Reads as with-repeats
@@ -57,6 +58,11 @@ given-within-decided least most v r s e f = e ∙ sym f
 pub parameter-fault-decided : (p : Parameters) (r s : Verdict)
     → parameter-fault.Post tt (p, tt) r (p, tt) → parameter-fault.Post tt (p, tt) s (p, tt) → r ≡ s
 parameter-fault-decided p r s e f = e ∙ sym f
+
+-- 4 and 5 of parameters that stand in no book, by the contract of `parameters_verdict`
+pub parameters-verdict-decided : (p : Parameters) (r s : Verdict)
+    → parameters-verdict.Post tt (p, tt) r (p, tt) → parameters-verdict.Post tt (p, tt) s (p, tt) → r ≡ s
+parameters-verdict-decided p r s e f = e ∙ sym f
 
 -- 6, where prices are needed, and 7, by the contract of `offer_fault`
 pub offer-fault-decided : (pricesNeeded : Bool) (o : Offer) (row : ℕ) (r s : Verdict)
