@@ -18,16 +18,17 @@ use denote.Triple.Clauses.{atExit}
 use Rattle.layout.specs.Read.{contentsOf}
 use Rattle.call.specs.Answer.{answerOf}
 use Rattle.report.specs.Report.{reportText}
-use Rattle.ozpinduru.specs.Export.{Returned, exported}
-use Rattle.ozpinduru.specs.Listed.{Read}
-use Rattle.ozpinduru.specs.Texts.{Told}
-use Rattle.ozpinduru.specs.declared.structs.OzpAnswer.{OzpAnswer}
-use Rattle.ozpinduru.specs.declared.structs.OzpContents.{OzpContents}
-use Rattle.ozpinduru.specs.declared.structs.OzpCurve.{OzpCurve}
-use Rattle.ozpinduru.specs.declared.structs.OzpParameters.{OzpParameters}
-use Rattle.ozpinduru.specs.declared.structs.OzpPrice.{OzpPrice}
-use Rattle.ozpinduru.specs.declared.structs.OzpRow.{OzpRow}
-use Rattle.ozpinduru.specs.declared.structs.OzpText.{OzpText}
+use Rattle.plain.specs.Answers.{exported}
+use Rattle.ozpinduru.specs.Export.{Returned}
+use Rattle.plain.specs.Listed.{Read}
+use Rattle.words.proofs.Decided.{told-same}
+use Rattle.plain.specs.declared.structs.OzpAnswer.{OzpAnswer}
+use Rattle.plain.specs.declared.structs.OzpContents.{OzpContents}
+use Rattle.plain.specs.declared.structs.OzpCurve.{OzpCurve}
+use Rattle.plain.specs.declared.structs.OzpParameters.{OzpParameters}
+use Rattle.plain.specs.declared.structs.OzpPrice.{OzpPrice}
+use Rattle.plain.specs.declared.structs.OzpRow.{OzpRow}
+use Rattle.plain.specs.declared.structs.OzpText.{OzpText}
 use Rattle.ozpinduru.proofs.export.ozp_clear.Reads as ozp-clear
 use Rattle.ozpinduru.proofs.export.ozp_curve.Reads as ozp-curve
 use Rattle.ozpinduru.proofs.export.ozp_days.Reads as ozp-days
@@ -95,10 +96,6 @@ pub ozp-version-decided : (r s : ℕ) → ozp-version.Post tt tt r tt → ozp-ve
 ozp-version-decided r s e f = e ∙ sym f
 
 -- ---- texts
-
-told-same : (text room : List ℕ) (r s : OzpText) (room₁ room₂ : List ℕ) → Told text room r room₁ → Told text room s room₂
-    → (r ≡ s) × (room₁ ≡ room₂)
-told-same text room r s room₁ room₂ x y = (x .answered ∙ sym (y .answered), x .room-holds ∙ sym (y .room-holds))
 
 -- the words of a number and the room, by the contract of `ozp_words`
 pub ozp-words-decided : (κs : Lfts 1) (number : ℕ) (room₁ room₂ room₁′ room₂′ : RefT (List ℕ)) (r s : OzpText)

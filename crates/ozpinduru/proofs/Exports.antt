@@ -1,16 +1,14 @@
 -- What each way through an exported function shows.
 --
--- In order: the number of rows of an answer; parameters, refused or not; make-whole by the kind of an answer; values by their
--- kind.
+-- In order: the number of rows of an answer; parameters, refused or not; make-whole by the kind of an answer.
 -- Assumes nothing.
 use mathlib.Core.Path.{_≡_, refl, sym, ap, ap₂, _∙_}
 use mathlib.Core.List.{List}
 use mathlib.Core.Option.{none, some}
-use Prim.Native.Nat.{ℕ, _-_, _≤_, _<_}
+use Prim.Native.Nat.{ℕ, _-_, _≤_}
 use lib.ListN.{length}
-use borrow.Author.Tests.{lt-ltb, le-ltb, eq-eqb, ne-eqb}
+use borrow.Author.Tests.{eq-eqb, ne-eqb}
 use Rattle.auction.specs.Settlement.{mills}
-use Rattle.values.specs.declared.Value.the-variants.{Given, Missing}
 use Rattle.values.specs.declared.Verdict.{Verdict}
 use Rattle.values.specs.declared.Verdict.the-variants.{Passed, Refused}
 use Rattle.values.specs.declared.head.Parameters.{Parameters}
@@ -22,7 +20,6 @@ use Rattle.limits.proofs.Passing.{parameters-ranged}
 use Rattle.curve.specs.Price.{curvePrice}
 use Rattle.curve.specs.declared.Curve.{Curve}
 use Rattle.curve.specs.declared.CurvePrice.{CurvePrice}
-use Rattle.layout.specs.Form.{offerCount}
 use Rattle.layout.specs.Read.{contentsOf}
 use Rattle.layout.proofs.Passing.{form-passed-length}
 use Rattle.layout.proofs.Contained.{contents-count}
@@ -34,27 +31,13 @@ use Rattle.call.specs.Answer.{answerBy, answerOf, callFault}
 use Rattle.call.specs.declared.Answer.{Answer}
 use Rattle.call.specs.declared.Answer.the-variants.{Cleared as Answer·Cleared}
 use Rattle.call.proofs.Calls.{passed-callable}
-use Rattle.ozpinduru.specs.Export.{exported, answerTo, exportedMakeWhole, noAmount, noValue}
-use Rattle.ozpinduru.specs.inner.Export.{rowsStated}
-use Rattle.ozpinduru.specs.Given.{valueIn}
-use Rattle.ozpinduru.specs.Plotted.{pointsOf, pointsRefused, exportedCurve, plottedPrice, priceRefused, exportedPrice}
-use Rattle.ozpinduru.specs.declared.structs.OzpValue.{OzpValue}
+use Rattle.plain.specs.Answers.{exported, exportedMakeWhole, noAmount}
+use Rattle.plain.proofs.Shows.{rows-stated}
+use Rattle.ozpinduru.specs.Export.{answerTo}
+use Rattle.plain.specs.inner.Answers.{rowsStated}
+use Rattle.plain.specs.Plotted.{pointsOf, pointsRefused, exportedCurve, plottedPrice, priceRefused, exportedPrice}
 
 -- ---- the number of rows
-
--- a book of one block at least states its number of offers there
-pub rows-stated : (b : List ℕ) → 512 ≤ length b → offerCount b ≡ rowsStated b
-unfolding rowsStated
-rows-stated b h = rw (le-ltb (length b) 512 h) (contents-count b)
-
--- and a shorter one states nothing
-pub rows-unstated : (b : List ℕ) → length b < 512 → noValue ≡ rowsStated b
-unfolding rowsStated
-rows-unstated b l = rw (lt-ltb (length b) 512 l)
-
--- a clearing by another name
-pub cleared-told : {a : Answer} {c : Clearing} (rows : ℕ) → a ≡ Answer·Cleared c → exported (Answer·Cleared c) rows ≡ exported a rows
-cleared-told rows e = ap (λ (x : Answer). exported x rows) (sym e)
 
 -- where no test refuses, the number of offers is shown, and on a refusal none is
 shown-by : (b : List ℕ) (v : Verdict) (c : Clearing) → (v ≡ Passed → 512 ≤ length b)
@@ -131,19 +114,3 @@ module _ (kind price cleared committed : ℕ) where
   pub whole-neither : (kind ≡ 1 → ⊥) → (kind ≡ 2 → ⊥) → noAmount ≡ exportedMakeWhole kind price cleared committed
   unfolding exportedMakeWhole
   whole-neither n m = rw (ne-eqb kind 1 n, ne-eqb kind 2 m)
-
--- ---- values
-
-module _ (v : OzpValue) where
-  -- given, missing, and of neither kind
-  pub value-given : v .kind ≡ 1 → Given (v .number) ≡ valueIn v
-  unfolding valueIn
-  value-given e = rw (eq-eqb (v .kind) 1 e)
-
-  pub value-missing : (v .kind ≡ 1 → ⊥) → v .kind ≡ 4 → Missing ≡ valueIn v
-  unfolding valueIn
-  value-missing n e = rw (ne-eqb (v .kind) 1 n, eq-eqb (v .kind) 4 e)
-
-  pub value-neither : (v .kind ≡ 1 → ⊥) → (v .kind ≡ 4 → ⊥) → Given noValue ≡ valueIn v
-  unfolding valueIn
-  value-neither n m = rw (ne-eqb (v .kind) 1 n, ne-eqb (v .kind) 4 m)

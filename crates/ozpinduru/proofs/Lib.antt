@@ -1,6 +1,2 @@
 pub mod Exports
-pub mod Exported
-pub mod Listings
-pub mod Reread
-pub mod Telling
 pub mod Decided

@@ -1,7 +1,1 @@
 pub mod Export
-pub mod Given
-pub mod Plotted
-pub mod Listed
-pub mod Texts
-pub mod Words
-pub mod inner

@@ -1,18 +1,18 @@
 // What callers in other languages link: include/ozpinduru.h says each contract in words.
-use crate::given::parameters_in;
-use crate::plain;
-use crate::plotted;
-use crate::structs::NO_AMOUNT;
-use crate::structs::OzpAnswer;
-use crate::structs::OzpCurve;
-use crate::structs::OzpParameters;
-use crate::structs::OzpPrice;
 use calendar::days_of;
 use call::clear;
 use call::quote;
 use curve::price_at;
 use limits::given::parameters_verdict;
 use market::price::ClearingPrice;
+use plain::answers;
+use plain::given::parameters_in;
+use plain::plotted;
+use plain::structs::NO_AMOUNT;
+use plain::structs::OzpAnswer;
+use plain::structs::OzpCurve;
+use plain::structs::OzpParameters;
+use plain::structs::OzpPrice;
 use region::region_curve;
 use settle::make_whole;
 use units::CentsPerMwDay;
@@ -22,9 +22,10 @@ ghost use lib.ListN.{length};
 ghost use Rattle.calendar.specs.Year.{daysOf};
 ghost use Rattle.layout.specs.Read.{contentsOf};
 ghost use Rattle.call.specs.Answer.{answerOf};
-ghost use Rattle.ozpinduru.specs.Export.{Returned, exported, exportedMakeWhole, version};
-ghost use Rattle.ozpinduru.specs.Plotted.{exportedCurve, exportedPrice};
-ghost use Rattle.ozpinduru.specs.Given.{parametersIn};
+ghost use Rattle.plain.specs.Answers.{exported, exportedMakeWhole};
+ghost use Rattle.ozpinduru.specs.Export.{Returned, version};
+ghost use Rattle.plain.specs.Plotted.{exportedCurve, exportedPrice};
+ghost use Rattle.plain.specs.Given.{parametersIn};
 
 // Clears a book.
 #[no_mangle]
@@ -32,7 +33,7 @@ pub extern "C" fn ozp_clear(book: &[u8], cleared: &mut [u32], committed: &mut [u
     ensures { λ r. ⌜ Returned (now (book .entry)) (now (cleared .entry)) (now (committed .entry)) r (now (cleared .exit)) (now (committed .exit)) ⌝ }
 {
     let answer = clear(book, cleared, committed);
-    plain::answer(answer, plain::rows_stated(book))
+    answers::answer(answer, answers::rows_stated(book))
 }
 
 // What a book clears, with no result buffers.
@@ -40,7 +41,7 @@ pub extern "C" fn ozp_clear(book: &[u8], cleared: &mut [u32], committed: &mut [u
 pub extern "C" fn ozp_quote(book: &[u8]) -> OzpAnswer
     ensures { λ r. ⌜ r ≡ exported (answerOf (now (book .entry))) (length (contentsOf (now (book .entry)) .offers)) ⌝ }
 {
-    plain::answer(quote(book), plain::rows_stated(book))
+    answers::answer(quote(book), answers::rows_stated(book))
 }
 
 // The three points of the curve that parameters make.

@@ -3,7 +3,7 @@
 use native.Mathlib.Omega.{arith}
 use borrow.Author.Needs.{needs}
 use Rattle.text.proofs.Puts.{written-taken}
-use Rattle.ozpinduru.proofs.Telling.{told-as}
+use Rattle.words.proofs.Telling.{told-as}
 use Rattle.ozpinduru.proofs.texts.ozp_report.Statement.{statement}
 use Rattle.ozpinduru.proofs.texts.ozp_report.Tie as tie
 

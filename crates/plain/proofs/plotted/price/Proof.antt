@@ -1,0 +1,20 @@
+-- `plotted::price` shows a price of the curve, case by case.
+-- Assumes nothing.
+use borrow.Author.Needs.{needs}
+use Rattle.plain.proofs.plotted.price.Statement.{statement}
+use Rattle.plain.proofs.plotted.price.Tie as tie
+
+enum-known-p : tie.Need-enum-known-p
+enum-known-p c = search needs
+
+enum-told : tie.Need-enum-told
+enum-told c = search needs
+
+returns : tie.Need-returns
+returns c = cc
+
+returns-2 : tie.Need-returns-2
+returns-2 c = cc
+
+pub price-spec : {M : Type 1} → statement M
+price-spec = tie.close (tie.spec enum-known-p enum-told returns returns-2)
