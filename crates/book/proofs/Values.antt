@@ -20,7 +20,7 @@ use Rattle.values.specs.declared.Verdict.{Verdict}
 use Rattle.values.specs.declared.Verdict.the-variants.{Passed, Refused}
 use Rattle.values.specs.declared.place.Offer.{Offer}
 use Rattle.values.proofs.Firsts.{first-zero, first-on, first-refused}
-use Rattle.limits.specs.inner.Repeats.{firstRepeat}
+use Rattle.repeats.specs.inner.Repeats.{firstRepeat}
 use Rattle.limits.specs.Offers.{offerFault, rowsFault}
 use Rattle.limits.specs.inner.Rows.{valuesFault, rowsBefore, withRepeats}
 use Rattle.limits.proofs.Rows.{rowsFault-passes}

@@ -1,7 +1,7 @@
 // The rows of a section: read once into columns, with their values' faults and a repeated resource among those before.
 use layout::reader::row_bytes;
 use limits::offers::offer_fault;
-use limits::repeats::with_repeats;
+use limits::repeated::with_repeats;
 use values::Verdict;
 use values::least_of;
 use values::number_held;

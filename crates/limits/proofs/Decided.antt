@@ -2,7 +2,7 @@
 -- bytes and the resource numbers lie.
 --
 -- In order: 4 by the marks and in a block 0, numbers within limits, 5, 4 and 5 of parameters outside a book, 6 and 7 of an
--- offer, 8. `fresh_rows` has no such law, and no caller outside: its answer only says where the search for a repeat may start.
+-- offer, 8.
 -- Assumes nothing.
 use mathlib.Core.Path.{_≡_, sym, ap, _∙_}
 use mathlib.Core.Bool.{Bool}
@@ -17,7 +17,6 @@ use Rattle.values.specs.declared.Verdict.{Verdict}
 use Rattle.values.specs.declared.head.Parameters.{Parameters}
 use Rattle.values.specs.declared.place.Offer.{Offer}
 use Rattle.limits.specs.Parameters.{missingFault}
-use Rattle.limits.specs.inner.Repeats.{firstRepeat}
 use Rattle.limits.specs.inner.Rows.{withRepeats}
 use Rattle.limits.proofs.parameters.missing.Reads as missing
 use Rattle.limits.proofs.parameters.missing_in.Reads as missing-in
@@ -26,8 +25,7 @@ use Rattle.limits.proofs.parameters.given_within.Reads as given-within
 use Rattle.limits.proofs.parameters.parameter_fault.Reads as parameter-fault
 use Rattle.limits.proofs.given.parameters_verdict.Reads as parameters-verdict
 use Rattle.limits.proofs.offers.offer_fault.Reads as offer-fault
-use Rattle.limits.proofs.repeats.first_repeat.Reads as first-repeat
-use Rattle.limits.proofs.repeats.with_repeats.Reads as with-repeats
+use Rattle.limits.proofs.repeated.with_repeats.Reads as with-repeats
 
 -- 4, by the contract of `missing`
 pub missing-decided : (marks : ℕ) (r s : Verdict)
@@ -69,15 +67,6 @@ pub offer-fault-decided : (pricesNeeded : Bool) (o : Offer) (row : ℕ) (r s : V
     → offer-fault.Post tt (pricesNeeded, (o, (row, tt))) r (pricesNeeded, (o, (row, tt)))
     → offer-fault.Post tt (pricesNeeded, (o, (row, tt))) s (pricesNeeded, (o, (row, tt))) → r ≡ s
 offer-fault-decided pricesNeeded o row r s e f = e ∙ sym f
-
--- the first row that repeats a resource number, by the contract of `first_repeat`
-pub first-repeat-decided : (κs : Lfts 1) (resources others : RefT (List ℕ)) (n r s : ℕ)
-    → now resources ≡ now others
-    → first-repeat.Post κs (resources, (n, tt)) r (resources, (n, tt))
-    → first-repeat.Post κs (others, (n, tt)) s (others, (n, tt))
-    → r ≡ s
-first-repeat-decided κs resources others n r s same e f =
-    e .0 ∙ ap (λ (rows : List ℕ). firstRepeat (λ row. getD rows row 0) n) same ∙ sym (f .0)
 
 -- the first fault of n rows, by the contract of `with_repeats`
 pub with-repeats-decided : (κs : Lfts 1) (found : Verdict) (resources others : RefT (List ℕ)) (n : ℕ) (r s : Verdict)

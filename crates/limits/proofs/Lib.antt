@@ -1,9 +1,6 @@
 pub mod Marks
 pub mod Tested
 pub mod Prices
-pub mod Failing
-pub mod Fresh
-pub mod Flagged
 pub mod Lowest
 pub mod Rows
 pub mod Passing

@@ -18,10 +18,10 @@ use Rattle.values.specs.declared.Verdict.the-variants.{Passed}
 use Rattle.values.specs.declared.place.Offer.{Offer}
 use Rattle.values.proofs.Firsts.{unless-passed, andThen-left, andThen-right, first-at}
 use Rattle.limits.specs.Parameters.{within, givenWithin}
-use Rattle.limits.specs.Repeats.{fresh}
+use Rattle.repeats.specs.Repeats.{fresh}
 use Rattle.limits.specs.Offers.{priceFault, offerInRange, offerFault, repeatFault, rowsFault}
 use Rattle.limits.specs.Ranges.{SoundOffer, PricedOffer}
-use Rattle.limits.proofs.Fresh.{fresh-differs}
+use Rattle.repeats.proofs.Fresh.{fresh-differs}
 use Rattle.limits.proofs.Passing.{within-from, within-to, given-within}
 
 -- ---- an offer

@@ -15,12 +15,12 @@ use Rattle.values.specs.declared.Verdict.{Verdict}
 use Rattle.values.specs.declared.Verdict.the-variants.{Passed, Refused}
 use Rattle.values.specs.declared.place.Offer.{Offer}
 use Rattle.values.proofs.Firsts.{unless-true, unless-false, andThen-next, andThen-refused, first-at, first-refused, first-ext}
-use Rattle.limits.specs.Repeats.{fresh}
-use Rattle.limits.specs.inner.Repeats.{firstRepeat}
+use Rattle.repeats.specs.Repeats.{fresh}
+use Rattle.repeats.specs.inner.Repeats.{firstRepeat}
 use Rattle.limits.specs.Offers.{offerFault, repeatFault, rowsFault}
 use Rattle.limits.specs.inner.Rows.{valuesFault, rowsBefore, withRepeats}
-use Rattle.limits.proofs.Failing.{by-failing}
-use Rattle.limits.proofs.Fresh.{repeat-none, repeat-at, repeat-ext}
+use Rattle.repeats.proofs.Failing.{by-failing}
+use Rattle.repeats.proofs.Fresh.{repeat-none, repeat-at, repeat-ext}
 use Rattle.limits.proofs.Tested.{offerFault-row}
 use Rattle.limits.proofs.Lowest.{by-first, first-fewer}
 

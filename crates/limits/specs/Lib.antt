@@ -1,6 +1,5 @@
 pub mod Parameters
 pub mod Given
-pub mod Repeats
 pub mod Offers
 pub mod Ranges
 pub mod Clearable

@@ -12,7 +12,7 @@ use Rattle.values.specs.declared.Verdict.{Verdict}
 use Rattle.values.specs.declared.Verdict.the-variants.{Passed}
 use Rattle.values.specs.declared.place.Offer.{Offer}
 use Rattle.limits.specs.Parameters.{within, givenWithin}
-use Rattle.limits.specs.Repeats.{fresh}
+use Rattle.repeats.specs.Repeats.{fresh}
 
 -- 6: the row's price is missing
 abbrev pub priceFault : Value → ℕ → Verdict

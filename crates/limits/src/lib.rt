@@ -1,6 +1,5 @@
 // The limits that the outline sets: refusals 4 to 8, on values that are read already.
-mod flags;
 pub mod given;
 pub mod offers;
 pub mod parameters;
-pub mod repeats;
+pub mod repeated;

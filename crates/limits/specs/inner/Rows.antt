@@ -7,7 +7,7 @@ use Rattle.values.specs.Refusals.{repeatedResource, first}
 use Rattle.values.specs.declared.Verdict.{Verdict}
 use Rattle.values.specs.declared.Verdict.the-variants.{Passed, Refused}
 use Rattle.values.specs.declared.place.Offer.{Offer}
-use Rattle.limits.specs.inner.Repeats.{firstRepeat}
+use Rattle.repeats.specs.inner.Repeats.{firstRepeat}
 use Rattle.limits.specs.Offers.{offerFault}
 
 -- 6, where prices are needed, and 7: the first row that has either

@@ -11,9 +11,9 @@ use lib.Dec.{eqb}
 use borrow.Author.Tests.{eq-eqb, ne-eqb, eqb-false, not-true}
 use Rattle.laws.specs.Sum.{every}
 use Rattle.laws.proofs.Everys.{every-at, every-false}
-use Rattle.limits.specs.Repeats.{fresh}
-use Rattle.limits.specs.inner.Repeats.{firstRepeat}
-use Rattle.limits.proofs.Failing.{every-ext, failing-none, failing-at, failing-le, failing-ext}
+use Rattle.repeats.specs.Repeats.{fresh}
+use Rattle.repeats.specs.inner.Repeats.{firstRepeat}
+use Rattle.repeats.proofs.Failing.{every-ext, failing-none, failing-at, failing-le, failing-ext}
 
 pub differ : (a b : ℕ) → (a ≡ b → ⊥) → not (eqb a b) ≡ true
 differ a b h = ap not (ne-eqb a b h)

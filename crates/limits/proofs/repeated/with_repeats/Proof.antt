@@ -2,8 +2,8 @@
 -- Assumes nothing.
 use borrow.Author.Needs.{needs}
 use Rattle.limits.proofs.Rows.{withRepeats-repeat, withRepeats-none}
-use Rattle.limits.proofs.repeats.with_repeats.Statement.{statement}
-use Rattle.limits.proofs.repeats.with_repeats.Tie as tie
+use Rattle.limits.proofs.repeated.with_repeats.Statement.{statement}
+use Rattle.limits.proofs.repeated.with_repeats.Tie as tie
 
 rows-before-requires : tie.Need-rows-before-requires
 rows-before-requires c κs = search needs

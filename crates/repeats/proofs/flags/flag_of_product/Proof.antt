@@ -2,8 +2,8 @@
 -- Assumes nothing.
 use borrow.Author.Needs.{needs}
 use Rattle.laws.proofs.Products.{product-below}
-use Rattle.limits.proofs.flags.flag_of_product.Statement.{statement}
-use Rattle.limits.proofs.flags.flag_of_product.Tie as tie
+use Rattle.repeats.proofs.flags.flag_of_product.Statement.{statement}
+use Rattle.repeats.proofs.flags.flag_of_product.Tie as tie
 
 add-low : tie.Need-add-low
 add-low c = search needs

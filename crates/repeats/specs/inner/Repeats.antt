@@ -3,7 +3,7 @@
 use Prim.Native.Nat.{ℕ, zero, suc}
 use mathlib.Core.Bool.{Bool, cond}
 use Rattle.laws.specs.Sum.{every}
-use Rattle.limits.specs.Repeats.{fresh}
+use Rattle.repeats.specs.Repeats.{fresh}
 
 -- the first of n places that fails a test, and n where none does
 unfoldable pub firstFailing : (ℕ → Bool) → ℕ → ℕ

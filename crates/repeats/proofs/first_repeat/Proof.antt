@@ -10,11 +10,11 @@ use lib.ListN.{getD}
 use borrow.Author.Needs.{needs}
 use Rattle.laws.specs.Sum.{every}
 use Rattle.laws.proofs.Everys.{every-zero}
-use Rattle.limits.specs.Repeats.{fresh}
-use Rattle.limits.proofs.Failing.{every-more}
-use Rattle.limits.proofs.Fresh.{differ, repeat-none, repeat-found}
-use Rattle.limits.proofs.repeats.first_repeat.Statement.{statement}
-use Rattle.limits.proofs.repeats.first_repeat.Tie as tie
+use Rattle.repeats.specs.Repeats.{fresh}
+use Rattle.repeats.proofs.Failing.{every-more}
+use Rattle.repeats.proofs.Fresh.{differ, repeat-none, repeat-found}
+use Rattle.repeats.proofs.first_repeat.Statement.{statement}
+use Rattle.repeats.proofs.first_repeat.Tie as tie
 
 abbrev Inv-loop : tie.InvT-loop
 Inv-loop resources n row earlier₀ earlier =

@@ -10,8 +10,8 @@ use lib.ListN.{getD}
 use borrow.Author.Needs.{needs}
 use Rattle.laws.specs.Sum.{every}
 use Rattle.laws.proofs.Everys.{every-zero, every-suc}
-use Rattle.limits.proofs.flags.absent.Statement.{statement}
-use Rattle.limits.proofs.flags.absent.Tie as tie
+use Rattle.repeats.proofs.flags.absent.Statement.{statement}
+use Rattle.repeats.proofs.flags.absent.Tie as tie
 
 abbrev Inv-loop : tie.InvT-loop
 Inv-loop resources n number none₀ row₀ none row =

@@ -11,12 +11,12 @@ use borrow.Author.Needs.{needs}
 use borrow.Author.Tests.{not-false}
 use Rattle.laws.specs.Sum.{every}
 use Rattle.laws.proofs.Everys.{every-zero}
-use Rattle.limits.specs.inner.Flags.{flagOfSum, flagOfProduct}
-use Rattle.limits.specs.Repeats.{fresh}
-use Rattle.limits.proofs.Failing.{every-more}
-use Rattle.limits.proofs.Flagged.{Flagged, flagged-none, flagged-kept, flagged-more, unmet-fresh, by-unset}
-use Rattle.limits.proofs.flags.fresh_rows.Statement.{statement}
-use Rattle.limits.proofs.flags.fresh_rows.Tie as tie
+use Rattle.repeats.specs.inner.Flags.{flagOfSum, flagOfProduct}
+use Rattle.repeats.specs.Repeats.{fresh}
+use Rattle.repeats.proofs.Failing.{every-more}
+use Rattle.repeats.proofs.Flagged.{Flagged, flagged-none, flagged-kept, flagged-more, unmet-fresh, by-unset}
+use Rattle.repeats.proofs.flags.fresh_rows.Statement.{statement}
+use Rattle.repeats.proofs.flags.fresh_rows.Tie as tie
 
 abbrev Inv-loop : tie.InvT-loop
 Inv-loop resources n met₀ row₀ met row =

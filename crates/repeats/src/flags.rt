@@ -8,8 +8,8 @@ ghost use Prim.Native.Nat.{_≤_, _<_};
 ghost use lib.Dec.{eqb};
 ghost use lib.ListN.{length, getD};
 ghost use Rattle.laws.specs.Sum.{every};
-ghost use Rattle.limits.specs.inner.Flags.{flagOfSum, flagOfProduct};
-ghost use Rattle.limits.specs.Repeats.{fresh};
+ghost use Rattle.repeats.specs.inner.Flags.{flagOfSum, flagOfProduct};
+ghost use Rattle.repeats.specs.Repeats.{fresh};
 
 // Whether a number stands in none of the first n rows. The loop has no branch, so that it runs in lanes.
 fn absent(resources: &[u32], n: usize, number: u32) -> bool

@@ -13,8 +13,8 @@ use lib.Seq.{getD-set-same, getD-set-other}
 use borrow.Author.Tests.{eqb-true, not-false}
 use Rattle.laws.proofs.Cases.{by-equality}
 use Rattle.laws.proofs.Compare.{up-to-last}
-use Rattle.limits.specs.Repeats.{fresh}
-use Rattle.limits.proofs.Failing.{by-failing}
+use Rattle.repeats.specs.Repeats.{fresh}
+use Rattle.repeats.proofs.Failing.{by-failing}
 
 -- For each of the first n rows the flag of its resource number is set.
 pub record Flagged (flagOf resources : ℕ → ℕ) (met : List Bool) (n : ℕ) : Type 0 where

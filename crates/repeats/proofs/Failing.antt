@@ -12,7 +12,7 @@ use native.Mathlib.Omega.{arith}
 use Rattle.laws.specs.Sum.{every}
 use Rattle.laws.proofs.Cases.{by-order, by-test, cond-true, cond-false, and-left, and-right, and-true}
 use Rattle.laws.proofs.Everys.{every-zero, every-suc, every-false}
-use Rattle.limits.specs.inner.Repeats.{firstFailing}
+use Rattle.repeats.specs.inner.Repeats.{firstFailing}
 
 failing-zero : (test : ℕ → Bool) → firstFailing test 0 ≡ 0
 unfolding firstFailing

@@ -1,31 +1,10 @@
-// Refusal 8: a resource number that stands in an earlier row.
-use crate::flags::fresh_rows;
+// Refusal 8: a resource number that stands in an earlier row, among the rows before the one that 6 or 7 refuses.
+use repeats::first_repeat;
 use values::Verdict;
 ghost use mathlib.Core.Path.{_≡_};
 ghost use Prim.Native.Nat.{_≤_};
 ghost use lib.ListN.{length, getD};
-ghost use Rattle.limits.specs.inner.Repeats.{firstRepeat};
 ghost use Rattle.limits.specs.inner.Rows.{rowsBefore, withRepeats};
-
-// The first of n rows whose resource number stands in an earlier row, and n where there is none. The search starts past the
-// rows that a table of flags shows to be fresh.
-pub fn first_repeat(resources: &[u32], n: usize) -> usize
-    requires { ⌜ n ≤ length (now resources) ⌝ }
-    ensures { λ r. ⌜ (r ≡ firstRepeat (λ row. getD (now (resources .entry)) row 0) n) × (r ≤ n) ⌝ }
-{
-    let mut row = fresh_rows(resources, n);
-    'rows: while row < n {
-        let mut earlier = 0;
-        while earlier < row {
-            if resources[earlier] == resources[row] {
-                break 'rows;
-            }
-            earlier += 1;
-        }
-        row += 1;
-    }
-    row
-}
 
 // How many rows stand before the one that is refused: all n where none is.
 fn rows_before(found: Verdict, n: u32) -> u32

@@ -1,0 +1,4 @@
+pub mod Failing
+pub mod Fresh
+pub mod Flagged
+pub mod Decided

@@ -1,0 +1,28 @@
+// The first row of a column of resource numbers whose number stands in an earlier row.
+mod flags;
+
+use flags::fresh_rows;
+ghost use mathlib.Core.Path.{_≡_};
+ghost use Prim.Native.Nat.{_≤_};
+ghost use lib.ListN.{length, getD};
+ghost use Rattle.repeats.specs.inner.Repeats.{firstRepeat};
+
+// The first of n rows whose resource number stands in an earlier row, and n where there is none. The search starts past the
+// rows that a table of flags shows to be fresh.
+pub fn first_repeat(resources: &[u32], n: usize) -> usize
+    requires { ⌜ n ≤ length (now resources) ⌝ }
+    ensures { λ r. ⌜ (r ≡ firstRepeat (λ row. getD (now (resources .entry)) row 0) n) × (r ≤ n) ⌝ }
+{
+    let mut row = fresh_rows(resources, n);
+    'rows: while row < n {
+        let mut earlier = 0;
+        while earlier < row {
+            if resources[earlier] == resources[row] {
+                break 'rows;
+            }
+            earlier += 1;
+        }
+        row += 1;
+    }
+    row
+}
