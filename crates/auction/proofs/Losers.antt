@@ -13,7 +13,8 @@ use borrow.Author.Tests.{leb-true}
 use Rattle.laws.specs.Lists.{listOf, those}
 use Rattle.laws.proofs.Cases.{by-order}
 use Rattle.laws.proofs.Compare.{le-unless}
-use Rattle.laws.proofs.Those.{those-map, those-agree, listOf-map}
+use Rattle.laws.proofs.Listing.{listOf-map}
+use Rattle.laws.proofs.Those.{those-map, those-agree}
 use Rattle.auction.specs.Offers.{Offers, Demand, Falling, supply, supplyBelow}
 use Rattle.auction.specs.Clearing.{clearedTotal, clearingPrice}
 use Rattle.auction.specs.Shares.{cleared}

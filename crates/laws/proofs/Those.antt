@@ -1,12 +1,12 @@
 -- Laws of `those`, the items of a list that pass a test.
 --
--- In order: an item that passes and one that does not; two lists one behind the other; items that are made of others, and ways to
--- make them that agree where the test passes; the places of a list; sums whose summands count only where the test passes.
+-- In order: an item that passes and one that does not; tests that agree on a list; two lists one behind the other; items that are
+-- made of others, and ways to make them that agree where the test passes; sums whose summands count only where the test passes.
 -- Assumes nothing.
 use mathlib.Core.Path.{_≡_, refl, sym, ap, ap₂, _∙_}
 use mathlib.Core.Bool.{Bool, true, false, cond}
 use mathlib.Core.List.{List, [], _∷_, _++_, map}
-use Prim.Native.Nat.{ℕ, zero, suc, _+_}
+use Prim.Native.Nat.{ℕ, zero, suc, _+_, _<_}
 use native.Mathlib.Omega.{arith}
 use lib.ListN.{length, getD}
 use Rattle.laws.specs.Sum.{sumTo}
@@ -28,6 +28,14 @@ module _ {ℓ} {A : Type ℓ} (test : A → Bool) where
   pub those-left : (x : A) (xs : List A) → test x ≡ false → those test (x ∷ xs) ≡ those test xs
   unfolding those
   those-left x xs e = cond-false (test x) _ _ e
+
+  -- two tests that agree at each place of a list pass the same items of it
+  pub those-same : (other : A → Bool) (xs : List A) (d : A)
+      → ((i : ℕ) → i < length xs → test (getD xs i d) ≡ other (getD xs i d)) → those test xs ≡ those other xs
+  unfolding those
+  those-same other [] d h = refl
+  those-same other (x ∷ xs) d h =
+      ap₂ (λ (t : Bool) (r : List A). cond t (x ∷ r) r) (h 0 (omega arith)) (those-same other xs d (λ i l. h (suc i) (omega arith)))
 
   cond-append : (t : Bool) (x : A) (r s : List A) → cond t (x ∷ (r ++ s)) (r ++ s) ≡ cond t (x ∷ r) r ++ s
   cond-append true x r s = refl
@@ -67,18 +75,6 @@ module _ {ℓ κ} {A : Type ℓ} {B : Type κ} where
       by-test (test x)
       (λ e. rw (those-passed test x xs e) (ap₂ (λ (y : B) (ys : List B). y ∷ ys) (h x e) (those-agree test f g h xs)))
       (λ e. rw (those-left test x xs e) (those-agree test f g h xs))
-
-  -- a list of values that are made of others
-  pub listOf-map : (f : A → B) (g : ℕ → A) (n : ℕ) → listOf (λ i. f (g i)) n ≡ map f (listOf g n)
-  unfolding listOf
-  listOf-map f g zero = refl
-  listOf-map f g (suc n) = ap (λ (r : List B). f (g 0) ∷ r) (listOf-map f (λ i. g (suc i)) n)
-
--- a list is that of what stands at its places
-pub listOf-getD {ℓ} : {A : Type ℓ} (xs : List A) (d : A) → listOf (λ i. getD xs i d) (length xs) ≡ xs
-unfolding listOf
-listOf-getD [] d = refl
-listOf-getD {A = A} (x ∷ xs) d = ap (λ (r : List A). x ∷ r) (listOf-getD xs d)
 
 -- ---- sums
 
