@@ -3,21 +3,19 @@
 -- In order: where the offers at the clearing price or below are the same, so is the total; so is the price; so is what they clear.
 -- Assumes nothing.
 use mathlib.Core.Path.{_≡_, sym, ap, fun-ext, _∙_}
-use mathlib.Core.List.{List, map}
+use mathlib.Core.List.{map}
 use mathlib.Core.Option.{some}
 use Prim.Native.Nat.{ℕ, suc, _≤_, _<_}
-use native.Mathlib.Nat.{le-antisymm, le-refl, le-trans, le-of-lt, not-le-of-lt, le-of-suc-le-suc, not-suc-le-self}
+use native.Mathlib.Nat.{le-antisymm, le-refl, le-trans, le-of-lt, not-le-of-lt, le-of-suc-le-suc}
 use native.Mathlib.Omega.{arith}
 use lib.Dec.{leb}
 use borrow.Author.Tests.{leb-true}
 use Rattle.laws.specs.Lists.{listOf, those}
-use Rattle.laws.proofs.Cases.{by-order}
 use Rattle.laws.proofs.Compare.{le-unless}
 use Rattle.laws.proofs.Listing.{listOf-map}
 use Rattle.laws.proofs.Those.{those-map, those-agree}
-use Rattle.auction.specs.Offers.{Offers, Demand, Falling, supply, supplyBelow}
+use Rattle.auction.specs.Offers.{Offers, Demand, Falling, supply}
 use Rattle.auction.specs.Clearing.{clearedTotal, clearingPrice}
-use Rattle.auction.specs.Shares.{cleared}
 use Rattle.auction.specs.Demands.{IsTotal, Suppliable}
 use Rattle.auction.specs.Losers.{Row, rowOf, rowsAtOrBelow, Sold, soldAtOrBelow, Unmoved}
 use Rattle.auction.proofs.Supply.{supply-mono, supplyBelow-suc}

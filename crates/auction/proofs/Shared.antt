@@ -4,15 +4,13 @@
 -- in both.
 -- Assumes nothing.
 use mathlib.Core.Path.{_≡_, refl, sym, ap, ap₂, _∙_}
-use mathlib.Core.Bool.{Bool, true, false, cond, _&&_}
-use Prim.Native.Nat.{ℕ, _-_, _*_, _/_, _%_, _≤_, _<_, min}
-use native.Mathlib.Nat.{le-trans, le-of-eq, le-of-lt, not-le-of-lt, lt-of-le-of-lt}
-use native.Mathlib.Omega.{arith}
+use mathlib.Core.Bool.{Bool, true, cond, _&&_}
+use Prim.Native.Nat.{ℕ, _-_, _≤_, _<_}
+use native.Mathlib.Nat.{le-trans, le-of-eq, le-of-lt, not-le-of-lt}
 use lib.Dec.{leb, ltb, eqb}
-use borrow.Author.Tests.{leb-true, leb-false, le-leb, lt-leb, le-ltb, ne-eqb, eqb-true}
+use borrow.Author.Tests.{leb-true, leb-false, eqb-true}
 use Rattle.laws.specs.Sum.{sumTo, sumWhere}
-use Rattle.laws.specs.Lists.{listOf, those}
-use Rattle.laws.proofs.Cases.{by-test, cond-true, cond-false, and-left}
+use Rattle.laws.proofs.Cases.{by-test, cond-false, and-left}
 use Rattle.laws.proofs.Those.{sums-agree}
 use Rattle.auction.specs.Offers.{Offers, supply, supplyBelow, levelSum}
 use Rattle.auction.specs.Shares.{levelAmount, spareTenths}

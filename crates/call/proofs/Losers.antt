@@ -4,7 +4,6 @@
 -- nothing.
 -- Assumes nothing.
 use mathlib.Core.Path.{_≡_, sym, ap, _∙_}
-use mathlib.Core.Bool.{false}
 use mathlib.Core.List.{List}
 use mathlib.Core.Option.{some}
 use Prim.Native.Nat.{ℕ}
@@ -23,7 +22,6 @@ use Rattle.book.proofs.Accepted.{accepted-clearable}
 use Rattle.sale.specs.Auction.{price}
 use Rattle.sale.specs.Payment.{clearingOf}
 use Rattle.sale.specs.declared.Clearing.{Clearing}
-use Rattle.call.specs.Answer.{Outcome}
 use Rattle.call.specs.Losers.{toPrice, atOrBelow, SameToPrice, SameSale, OneLoser}
 use Rattle.call.specs.declared.Answer.the-variants.{Cleared as Answer·Cleared}
 use Rattle.call.proofs.Decided.{Called, call-outcome}

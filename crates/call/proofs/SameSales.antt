@@ -3,15 +3,14 @@
 -- In order: the total and the price; what an offer at or below the price gets; the totals of mills; the lines of both; the losers.
 -- Assumes nothing.
 use mathlib.Core.Path.{_≡_, sym, ap, ap₂, _∙_}
-use mathlib.Core.Bool.{Bool, true, false}
+use mathlib.Core.Bool.{Bool}
 use mathlib.Core.List.{List, map}
 use mathlib.Core.Option.{some}
 use Prim.Native.Nat.{ℕ, _+_, _*_, _≤_, _<_}
 use lib.Dec.{leb}
 use lib.ListN.{length, getD}
 use borrow.Author.Tests.{leb-true, leb-false}
-use Rattle.laws.specs.Sum.{sumTo}
-use Rattle.laws.specs.Lists.{listOf, those}
+use Rattle.laws.specs.Lists.{those}
 use Rattle.laws.proofs.Sums.{sumTo-ext}
 use Rattle.laws.proofs.Listing.{listOf-ext, listOf-map, listOf-getD}
 use Rattle.laws.proofs.Those.{those-map, those-agree, sums-agree}
@@ -30,7 +29,7 @@ use Rattle.values.specs.declared.head.Parameters.{Parameters}
 use Rattle.values.specs.declared.place.Offer.{Offer}
 use Rattle.limits.specs.Clearable.{Clearable}
 use Rattle.settle.specs.Read.{optional}
-use Rattle.sale.specs.Auction.{offersOf, demand, total, price, rowCleared, rowCommitted, rowMakeWhole, allMakeWhole, dailyTotal, yearTotal}
+use Rattle.sale.specs.Auction.{offersOf, demand, total, price, rowCleared, rowCommitted, allMakeWhole, dailyTotal, yearTotal}
 use Rattle.sale.proofs.Ground.{clearable-falls}
 use Rattle.call.specs.Losers.{toPrice, atOrBelow, SameToPrice, Line, lineAt, linesAtOrBelow, OthersLose}
 use Rattle.call.proofs.Shared.{asRow, offerClears, offerLine, cleared-line, committed-line, make-whole-line, toPrice-most, toPrice-held}

@@ -3,40 +3,33 @@
 -- In order: the offers of contents as rows of an auction; what an offer clears, commits and is paid, told from the offer; so the totals,
 -- the price and the amounts of two contents that agree up to the price p of the first.
 -- Assumes nothing.
-use mathlib.Core.Path.{_≡_, refl, sym, ap, subst, _∙_}
+use mathlib.Core.Path.{_≡_, sym, ap, _∙_}
 use mathlib.Core.Bool.{true, false≢true}
-use mathlib.Core.List.{List, map}
-use mathlib.Core.Option.{Option, none, some}
-use Prim.Native.Nat.{ℕ, _+_, _-_, _*_, _≤_, _<_}
+use mathlib.Core.List.{map}
+use mathlib.Core.Option.{some}
+use Prim.Native.Nat.{ℕ, _-_, _≤_, _<_}
 use native.Mathlib.Nat.{mul-zero}
 use lib.Dec.{leb}
 use lib.ListN.{length}
-use borrow.Author.Tests.{leb-true, leb-false}
-use Rattle.laws.specs.Sum.{sumTo}
+use borrow.Author.Tests.{leb-true}
 use Rattle.laws.specs.Lists.{listOf, those}
 use Rattle.laws.proofs.Listing.{listOf-map, listOf-getD}
-use Rattle.laws.proofs.Those.{those-same, those-map, sums-agree}
-use Rattle.auction.specs.Offers.{Offers, Demand, Falling}
-use Rattle.auction.specs.Clearing.{clearedTotal, clearingPrice}
-use Rattle.auction.specs.Settlement.{committed, mills, makeWhole}
-use Rattle.auction.specs.Losers.{Row, rowOf, rowsAtOrBelow}
+use Rattle.laws.proofs.Those.{those-same, those-map}
+use Rattle.auction.specs.Settlement.{committed, makeWhole}
+use Rattle.auction.specs.Losers.{Row, rowsAtOrBelow}
 use Rattle.auction.proofs.Committed.{committed-none}
 use Rattle.auction.proofs.ByRow.{rowClears, cleared-by-row}
-use Rattle.auction.proofs.Losers.{total-unmoved, price-unmoved, clears-unmoved, loser-clears-nothing}
-use Rattle.calendar.specs.Year.{daysOf}
-use Rattle.curve.specs.Price.{demandOf}
-use Rattle.region.specs.Region.{regionCurve}
+use Rattle.auction.proofs.Losers.{loser-clears-nothing}
 use Rattle.values.specs.Values.{held}
 use Rattle.values.specs.Contents.{Contents, noOffer, offerAt}
 use Rattle.values.specs.declared.Value.{Value}
 use Rattle.values.specs.declared.Value.the-variants.{Given, Missing}
-use Rattle.values.specs.declared.head.Parameters.{Parameters}
 use Rattle.values.specs.declared.place.Offer.{Offer}
 use Rattle.limits.specs.Clearable.{Clearable}
 use Rattle.settle.specs.Read.{optional}
-use Rattle.sale.specs.Auction.{offersOf, demand, total, price, rowCleared, rowCommitted, rowMakeWhole, allMakeWhole, dailyTotal, yearTotal}
+use Rattle.sale.specs.Auction.{offersOf, demand, total, price, rowCleared, rowCommitted, rowMakeWhole}
 use Rattle.sale.proofs.Ground.{clearable-falls}
-use Rattle.call.specs.Losers.{toPrice, atOrBelow, SameToPrice, Line}
+use Rattle.call.specs.Losers.{toPrice, atOrBelow, Line}
 
 -- an offer as a row of an auction
 abbrev pub asRow : Offer → Row
