@@ -83,6 +83,28 @@ known-by : (v v′ : Verdict) (k : Clearing) (c c′ : Contents) (p s : ℕ) →
 known-by v v′ k c c′ p s w =
     rw (w .accepted, w .accepted′, w .priced) (same-compared p c c′ (w .same) ∙ ap (Applies p) (sym (w .count)))
 
+module _ (b b′ : List ℕ) (p shared : ℕ) where
+  -- the comparison of two books says that the theorem applies exactly when it does
+  pub comparison-applies : (comparisonOf b b′ ≡ Applies p shared) ↔ TheoremApplies b b′ p shared
+  unfolding comparisonOf
+  comparison-applies = (only, there)
+    where
+      c : Contents
+      c = contentsOf b
+
+      c′ : Contents
+      c′ = contentsOf b′
+
+      only : comparedBy (answerBy (firstFault b) (clearingOf c)) (firstFault b′) c c′ ≡ Applies p shared → TheoremApplies b b′ p shared
+      only e =
+          let w = by-known (firstFault b) (firstFault b′) (clearingOf c) c c′ p shared e in
+          record { accepted = w .accepted; accepted′ = w .accepted′; priced = w .priced; same = w .same; count = w .count }
+
+      there : TheoremApplies b b′ p shared → comparedBy (answerBy (firstFault b) (clearingOf c)) (firstFault b′) c c′ ≡ Applies p shared
+      there t =
+          known-by (firstFault b) (firstFault b′) (clearingOf c) c c′ p shared
+          (record { accepted = t .accepted; accepted′ = t .accepted′; priced = t .priced; same = t .same; count = t .count })
+
 module _ (κs : Lfts 2) (first second : RefT (List ℕ)) (r : Comparison)
     (compared : compare.Post κs (first, (second, tt)) r (first, (second, tt))) where
   abbrev b : List ℕ
@@ -91,23 +113,11 @@ module _ (κs : Lfts 2) (first second : RefT (List ℕ)) (r : Comparison)
   abbrev b′ : List ℕ
   b′ = now second
 
-  applies-only : (p shared : ℕ) → r ≡ Applies p shared → TheoremApplies b b′ p shared
-  unfolding comparisonOf
-  applies-only p shared e =
-      let w = by-known (firstFault b) (firstFault b′) (clearingOf (contentsOf b)) (contentsOf b) (contentsOf b′) p shared (sym compared ∙ e) in
-      record { accepted = w .accepted; accepted′ = w .accepted′; priced = w .priced; same = w .same; count = w .count }
-
-  applies-there : (p shared : ℕ) → TheoremApplies b b′ p shared → r ≡ Applies p shared
-  unfolding comparisonOf
-  applies-there p shared t =
-      compared
-      ∙ known-by (firstFault b) (firstFault b′) (clearingOf (contentsOf b)) (contentsOf b) (contentsOf b′) p shared
-      (record { accepted = t .accepted; accepted′ = t .accepted′; priced = t .priced; same = t .same; count = t .count })
-
   -- REQUEST 05. The comparison says that the theorem applies, with a price and a number of shared offers, exactly when both books are
   -- accepted, the first has that price, both say the same up to it, and so many of their offers are at or below it.
   pub compare-applies : (p shared : ℕ) → (r ≡ Applies p shared) ↔ TheoremApplies b b′ p shared
-  compare-applies p shared = (applies-only p shared, applies-there p shared)
+  compare-applies p shared =
+      (λ e. comparison-applies b b′ p shared .0 (sym compared ∙ e), λ t. compared ∙ comparison-applies b b′ p shared .1 t)
 
   -- REQUEST 05. And then two calls on these books sell the same.
   pub compare-losers : (p shared : ℕ) → r ≡ Applies p shared
@@ -117,7 +127,7 @@ module _ (κs : Lfts 2) (first second : RefT (List ℕ)) (r : Comparison)
       → Called κs₂ second cleared₀′ committed₀′ cleared₁′ committed₁′ (Answer·Cleared k′)
       → SameSale p (contentsOf b) (contentsOf b′) k k′ (now cleared₁) (now committed₁) (now cleared₁′) (now committed₁′)
   compare-losers p shared e κs₁ κs₂ cleared₀ committed₀ cleared₁ committed₁ k called cleared₀′ committed₀′ cleared₁′ committed₁′ k′ called′ =
-      let t = applies-only p shared e in
+      let t = compare-applies p shared .0 e in
       let own = call-sells κs₁ first cleared₀ committed₀ cleared₁ committed₁ k called .clearing in
       call-losers κs₁ κs₂ first cleared₀ committed₀ cleared₁ committed₁ k called second cleared₀′ committed₀′ cleared₁′ committed₁′ k′ called′
       (record { 0 = p }) (ap (λ (c : Clearing). c .price) own ∙ t .priced) (t .same)
