@@ -4,3 +4,4 @@ pub mod Listings
 pub mod Reread
 pub mod Telling
 pub mod Decided
+pub mod Comparisons

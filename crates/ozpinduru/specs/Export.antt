@@ -1,8 +1,9 @@
 -- What the exported functions return: plain structs of numbers, as functions of the library's own answers.
 --
--- No kind is 0: 1 what was asked for is there, 2 there is none, 3 refused, 4 a value is missing. A field that has no value holds
--- all ones.
--- In order: the answer of a call; a row's make-whole; the version. What a caller hands in stands in Given, a curve in Plotted.
+-- No kind is 0: 1 what was asked for is there, 2 there is none, 3 refused, 4 a value is missing, 5 two books differ. A field that
+-- has no value holds all ones.
+-- In order: the answer of a call; a row's make-whole; the version. What a caller hands in stands in Given, a curve in
+-- Plotted, a comparison in Compared.
 -- Assumes nothing.
 use Prim.Native.Nat.{ℕ, _-_}
 use mathlib.Core.Path.{_≡_}
@@ -84,7 +85,7 @@ exportedMakeWhole kind price cleared committed =
     cond (eqb kind 1) (mills (some price) (committed - cleared))
     (cond (eqb kind 2) (mills none (committed - cleared)) noAmount)
 
--- ---- the version of the interface: 0.2.0
+-- ---- the version of the interface: 0.4.0
 
 abbrev pub version : ℕ
-version = 2000
+version = 4000

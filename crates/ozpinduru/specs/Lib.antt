@@ -4,4 +4,5 @@ pub mod Plotted
 pub mod Listed
 pub mod Texts
 pub mod Words
+pub mod Compared
 pub mod inner
