@@ -8,7 +8,10 @@ use crate::{CentsPerMwDay, Field, Refusal};
 pub enum Comparison {
     /// Losers don't matter: both books have the same parameters, and the same offers at or below the first book's price, `shared`
     /// of them, in the same order among themselves. So both have the same answer, and each shared offer gets the same.
-    Applies { price: CentsPerMwDay, shared: usize },
+    Applies {
+        price: CentsPerMwDay,
+        shared: usize,
+    },
     FirstRefused(Refusal),
     SecondRefused(Refusal),
     /// Nothing clears in the first book, so that it has no price to compare to.
@@ -17,7 +20,10 @@ pub enum Comparison {
     ParametersDiffer(Field),
     /// The first offers at or below the price that differ: the row in the first book and in the second. There is none where a book
     /// has no such offer more.
-    OffersDiffer { row: Option<usize>, other: Option<usize> },
+    OffersDiffer {
+        row: Option<usize>,
+        other: Option<usize>,
+    },
 }
 
 /// Compares two books.
@@ -36,8 +42,10 @@ pub fn compare(first: &[u8], second: &[u8]) -> Comparison {
         raw::NONE => Comparison::NothingClears,
         raw::REFUSED if found.book == 1 => Comparison::FirstRefused(Refusal::of(found.number, found.place)),
         raw::REFUSED => Comparison::SecondRefused(Refusal::of(found.number, found.place)),
-        raw::DIFFERS if found.field != raw::NO_VALUE => Comparison::ParametersDiffer(Field::of(found.field)),
-        raw::DIFFERS => Comparison::OffersDiffer { row: row(found.row), other: row(found.other) },
+        raw::DIFFERS => match Field::of(found.field) {
+            Some(field) => Comparison::ParametersDiffer(field),
+            None => Comparison::OffersDiffer { row: row(found.row), other: row(found.other) },
+        },
         kind => raw::unknown(kind),
     }
 }
