@@ -28,7 +28,7 @@ extern "C" {
 #endif
 
 #define OZP_VERSION_MAJOR 0
-#define OZP_VERSION_MINOR 2
+#define OZP_VERSION_MINOR 4
 #define OZP_VERSION_PATCH 0
 #define OZP_VERSION (OZP_VERSION_MAJOR * 1000000 + OZP_VERSION_MINOR * 1000 + OZP_VERSION_PATCH)
 
@@ -45,7 +45,8 @@ enum {
     OZP_GIVEN = 1,   /* what was asked for is there */
     OZP_NONE = 2,    /* there is none */
     OZP_REFUSED = 3, /* number and place say why */
-    OZP_MISSING = 4  /* a value that the book or the caller leaves out */
+    OZP_MISSING = 4, /* a value that the book or the caller leaves out */
+    OZP_DIFFERS = 5  /* two books differ: a field, or a row of either, says where */
 };
 
 /* numbers of refusals; in the comment, what the place is */
@@ -98,6 +99,18 @@ typedef struct { uint32_t kind, price, number, place; } ozp_curve_price;
  * parameter is OZP_NONE. */
 typedef struct { uint32_t kind, rows, number, place; ozp_parameters parameters; } ozp_contents;
 
+/* The comparison of two books. `book` is 1 or 2, `field` one of the parameters' fields, `row` a row of the first book and
+ * `other` one of the second.
+ *
+ *   kind          price, shared   book, number, place   field      row, other
+ *   OZP_GIVEN     the first's     no value              no value   no value
+ *   OZP_NONE      no value        no value              no value   no value
+ *   OZP_REFUSED   no value        the refusal's         no value   no value
+ *   OZP_DIFFERS   no value        no value              given      no value, where parameters differ
+ *   OZP_DIFFERS   no value        no value              no value   where offers differ; no value where a book has no more
+ */
+typedef struct { uint32_t kind, price, shared, field, row, other, book, number, place; } ozp_comparison;
+
 /* A text in lent room: OZP_GIVEN with the count of bytes written, OZP_NONE with 0 where there is no such text, or OZP_REFUSED
  * by OZP_SHORT_ROOM at 0. Only the bytes of the text are changed, none of a room that is too small; no zero ends the text. */
 typedef struct { uint64_t bytes; uint32_t kind, number, place; } ozp_text;
@@ -118,6 +131,20 @@ ozp_answer ozp_quote(const uint8_t *book, size_t book_bytes);
  * entries past the last row are not touched. Refused by 1, 2, 3, then by 9 at 1 where the book has more rows than there are
  * entries; a refusal leaves the entries as they were. */
 ozp_contents ozp_read(const uint8_t *book, size_t book_bytes, ozp_row *rows, size_t row_entries);
+
+/* Whether losers matter between two books.
+ *
+ * OZP_GIVEN says that they don't: both books are accepted, the first has the price `price`, their parameters are the same, and
+ * their offers at or below that price are the same in every value, in the same order among themselves, `shared` of them; every
+ * other offer, in either book, is above it. Then both books have the same answer, with the same price and total and the same
+ * amounts of the day and the year; the shared offers clear and commit the same and have the same make-whole, wherever their rows
+ * stand, and all others nothing. That is proved.
+ *
+ * Else the first of these, in this order: OZP_REFUSED, the first book's refusal or the second's, as by ozp_quote; OZP_NONE,
+ * nothing clears in the first book, so that there is no price to compare to; OZP_DIFFERS with the lowest field in which the
+ * parameters differ; OZP_DIFFERS with the rows of the first two offers at or below the price that differ, `other` having no value
+ * where the second book has no such offer more, and `row` where the first has none. */
+ozp_comparison ozp_compare(const uint8_t *first, size_t first_bytes, const uint8_t *second, size_t second_bytes);
 
 /* The curve that parameters make. Refused by 4 at the lowest missing field; else by 5 at the lowest field out of range: the
  * year is 2026 to 2099, C 1 to 1,000,000, E 0 to C, F 0 to 5,000 and R 1,000 to 2,000,000. */

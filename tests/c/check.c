@@ -32,6 +32,20 @@ size_t read_book(const char *folder, const char *name, uint8_t *book)
     return bytes;
 }
 
+/* the two sums of a block, made anew */
+void seal(uint8_t *block)
+{
+    uint32_t first = 0, second = 0, i;
+    for (i = 0; i < 508; i++) {
+        first += block[i];
+        second += block[i] * (i + 1);
+    }
+    block[508] = (uint8_t)(first % 256);
+    block[509] = (uint8_t)(first / 256 % 256);
+    block[510] = (uint8_t)(second % 256);
+    block[511] = (uint8_t)(second / 256 % 256);
+}
+
 static void fill(struct buffers *out)
 {
     size_t i;

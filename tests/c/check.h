@@ -26,6 +26,7 @@ extern unsigned held, failed;
 
 void expect(int fact, const char *name, const char *what);
 size_t read_book(const char *folder, const char *name, uint8_t *book);
+void seal(uint8_t *block);
 ozp_answer clear(const uint8_t *book, size_t bytes, struct buffers *out, size_t cleared, size_t committed);
 uint32_t year_of(const uint8_t *book);
 void expect_clearing(ozp_answer a, const struct buffers *out, uint32_t year, size_t rows, const char *name);
@@ -41,6 +42,7 @@ void nothing(const char *folder);
 void curve(void);
 void make_whole(void);
 void days(const char *folder);
+void comparing(const char *folder);
 void expect_report(const uint8_t *book, size_t bytes, const char *text, const char *name);
 void texts(const char *folder);
 void threads(const char *folder);

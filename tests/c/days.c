@@ -1,20 +1,12 @@
 /* The days of delivery years, and the year total that they make. */
 #include "check.h"
 
-/* the year of a book's block 0, with the two sums made anew */
+/* the year of a book's block 0 */
 static void set_year(uint8_t *book, uint32_t year)
 {
-    uint32_t first = 0, second = 0, i;
     book[6] = (uint8_t)(year % 256);
     book[7] = (uint8_t)(year / 256);
-    for (i = 0; i < 508; i++) {
-        first += book[i];
-        second += book[i] * (i + 1);
-    }
-    book[508] = (uint8_t)(first % 256);
-    book[509] = (uint8_t)(first / 256 % 256);
-    book[510] = (uint8_t)(second % 256);
-    book[511] = (uint8_t)(second / 256 % 256);
+    seal(book);
 }
 
 void days(const char *folder)

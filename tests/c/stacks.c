@@ -21,6 +21,7 @@ static uint8_t room[OZP_REPORT_BYTES];
 static void *call_nothing(void *lent) { return lent; }
 static void *call_clear(void *lent) { clear(book, bytes, &out, ENTRIES, ENTRIES); return lent; }
 static void *call_quote(void *lent) { ozp_quote(book, bytes); return lent; }
+static void *call_compare(void *lent) { ozp_compare(book, bytes, book, bytes); return lent; }
 static void *call_read(void *lent) { ozp_read(book, bytes, rows, ENTRIES); return lent; }
 static void *call_report(void *lent) { ozp_report(book, bytes, room, sizeof room); return lent; }
 static void *call_words(void *lent) { ozp_words(OZP_WRONG_LAYOUT, room, sizeof room); return lent; }
@@ -49,7 +50,7 @@ void stacks(const char *folder)
     /* by name, with the KiB that the header says are more than enough */
     static const struct { const char *name; void *(*call)(void *); size_t enough; } calls[] = {
         {"clear", call_clear, 40}, {"quote", call_quote, 40}, {"read", call_read, 40}, {"curve", call_curve, 40},
-        {"price_at", call_price_at, 40}, {"report", call_report, 72}, {"words", call_words, 40},
+        {"price_at", call_price_at, 40}, {"report", call_report, 72}, {"words", call_words, 40}, {"compare", call_compare, 40},
     };
     static const char *const books[] = {"reference.book", "offers-600-length-20992.book"};
     void *stack = NULL;

@@ -23,6 +23,7 @@ int main(int count, char **words)
     curve();
     make_whole();
     days(words[1]);
+    comparing(words[1]);
     texts(words[1]);
     threads(words[1]);
     if (count == 4)

@@ -18,7 +18,7 @@
 
 static void constants(void)
 {
-    printf("constants %d %d %d %d", OZP_GIVEN, OZP_NONE, OZP_REFUSED, OZP_MISSING);
+    printf("constants %d %d %d %d %d", OZP_GIVEN, OZP_NONE, OZP_REFUSED, OZP_MISSING, OZP_DIFFERS);
     printf(" %d %d %d %d", OZP_BOOK_BYTES, OZP_ROWS, OZP_REPORT_BYTES, OZP_WORDS_BYTES);
     printf(" %u %llu\n", (unsigned)OZP_NO_VALUE, (unsigned long long)OZP_NO_AMOUNT);
 }
@@ -84,6 +84,16 @@ static void contents(void)
     FIELD(ozp_contents, number);
     FIELD(ozp_contents, place);
     LAST(ozp_contents, parameters);
+    STRUCT(ozp_comparison);
+    FIELD(ozp_comparison, kind);
+    FIELD(ozp_comparison, price);
+    FIELD(ozp_comparison, shared);
+    FIELD(ozp_comparison, field);
+    FIELD(ozp_comparison, row);
+    FIELD(ozp_comparison, other);
+    FIELD(ozp_comparison, book);
+    FIELD(ozp_comparison, number);
+    LAST(ozp_comparison, place);
     STRUCT(ozp_text);
     FIELD(ozp_text, bytes);
     FIELD(ozp_text, kind);

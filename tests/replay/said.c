@@ -26,3 +26,13 @@ int is_reported(const struct call *call)
     free(text);
     return whole.kind == OZP_GIVEN && fitted.kind == OZP_GIVEN && fitted.bytes == whole.bytes && cut.number == OZP_SHORT_ROOM;
 }
+
+/* whether a book beside itself is answered by what it clears */
+int is_compared(const struct call *call)
+{
+    const uint8_t *book = call->book;
+    size_t bytes = call->due.book_bytes;
+    ozp_answer a = ozp_quote(book, bytes);
+    ozp_comparison c = ozp_compare(book, bytes, book, bytes);
+    return c.kind == a.kind && c.price == a.price && c.number == a.number && c.place == a.place;
+}

@@ -6,11 +6,12 @@ there is None, never 0: a clearing with no price cleared nothing, and an offer w
 from ._book import Book, Offer, Parameters, read
 from ._calendar import days
 from ._clearing import Clearing, Columns, Quote, Row, clear, clear_columns, quote
+from ._comparison import Comparison, RefusedBook, compare
 from ._curve import Curve, curve, price_at
 from ._refusal import Fault, Refusal, report, version, words
 
-__version__ = "0.2.0"
+__version__ = "0.4.0"
 __all__ = [
-    "Book", "Clearing", "Columns", "Curve", "Fault", "Offer", "Parameters", "Quote", "Refusal", "Row",
-    "clear", "clear_columns", "curve", "days", "price_at", "quote", "read", "report", "version", "words",
+    "Book", "Clearing", "Columns", "Comparison", "Curve", "Fault", "Offer", "Parameters", "Quote", "Refusal", "RefusedBook", "Row",
+    "clear", "clear_columns", "compare", "curve", "days", "price_at", "quote", "read", "report", "version", "words",
 ]

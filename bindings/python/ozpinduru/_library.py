@@ -6,10 +6,10 @@ import os
 import pathlib
 from typing import Any
 
-VERSION = (0, 2, 0)
+VERSION = (0, 4, 0)
 
 # kinds
-GIVEN, NONE, REFUSED, MISSING = 1, 2, 3, 4
+GIVEN, NONE, REFUSED, MISSING, DIFFERS = 1, 2, 3, 4, 5
 
 # a number of 32 bits that has no value
 NO_VALUE = 2**32 - 1
@@ -30,8 +30,9 @@ Answer = _struct("ozp_answer", (_amount, "make_whole daily year"), (_word, "kind
 CurvePoints = _struct("ozp_curve_points", (_word, "kind p1 p2 p3 q1 q2 q3 number place"))
 CurvePrice = _struct("ozp_curve_price", (_word, "kind price number place"))
 Contents = _struct("ozp_contents", (_word, "kind rows number place"), (Parameters, "parameters"))
+Comparison = _struct("ozp_comparison", (_word, "kind price shared field row other book number place"))
 Text = _struct("ozp_text", (_amount, "bytes"), (_word, "kind number place"))
-STRUCTS = (Value, Parameters, Row, Answer, CurvePoints, CurvePrice, Contents, Text)
+STRUCTS = (Value, Parameters, Row, Answer, CurvePoints, CurvePrice, Contents, Comparison, Text)
 
 
 def _declared(c: ctypes.CDLL) -> ctypes.CDLL:
@@ -41,6 +42,7 @@ def _declared(c: ctypes.CDLL) -> ctypes.CDLL:
         ("clear", Answer, book + buffer + buffer),
         ("quote", Answer, book),
         ("read", Contents, book + buffer),
+        ("compare", Comparison, book + book),
         ("curve", CurvePoints, [Parameters]),
         ("price_at", CurvePrice, [Parameters, _word]),
         ("make_whole", _amount, [_word] * 4),

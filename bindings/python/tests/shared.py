@@ -17,3 +17,10 @@ def verdicts():
     for line in (VERDICTS / "stdout").read_text().splitlines():
         name, said = line.split(": ")
         yield name, (VERDICTS / "data" / name).read_bytes(), said.split(", ")[0], int(said.split()[-1])
+
+
+def pairs():
+    """Each pair of tests/comparisons: its name, both books, and what is due."""
+    for path in sorted((ROOT / "tests" / "comparisons").glob("*.txt")):
+        first, second = (path.with_suffix(f".{which}.book").read_bytes() for which in ("first", "second"))
+        yield path.stem, first, second, path.read_text().strip()

@@ -9,9 +9,9 @@ import unittest
 from concurrent.futures import ThreadPoolExecutor
 from dataclasses import FrozenInstanceError, replace
 
-from shared import PYTHON, ROOT, reference, verdicts
-from ozpinduru import (Book, Clearing, Columns, Curve, Fault, Offer, Parameters, Quote, Refusal, Row, clear, clear_columns, curve,
-                       days, price_at, quote, read, report, version, words)
+from shared import PYTHON, ROOT, pairs, reference, verdicts
+from ozpinduru import (Book, Clearing, Columns, Comparison, Curve, Fault, Offer, Parameters, Quote, Refusal, RefusedBook, Row, clear,
+                       clear_columns, compare, curve, days, price_at, quote, read, report, version, words)
 from write_book import REFERENCE, THREE, book, many, offer
 
 GIVEN = Parameters(**REFERENCE)
@@ -120,6 +120,45 @@ class Days(unittest.TestCase):
             self.assertRaisesRegex(ValueError, f"^{year} is no year$", days, year)
 
 
+class Compares(unittest.TestCase):
+    def said(self, first, second):
+        """A comparison as the line beside a pair of tests/comparisons says it."""
+        try:
+            c = compare(first, second)
+        except RefusedBook as refusal:
+            return f"refused {refusal.book} {refusal.number} {refusal.place}"
+        self.assertEqual((c.first, c.second), (quote(first), quote(second)))
+        if c.applies:
+            self.assertEqual((c.first, c.field, c.row, c.other), (c.second, None, None, None))
+            return f"applies {c.first.price} {c.shared}"
+        self.assertIsNone(c.shared)
+        if c.field is not None:
+            return f"field {c.field}"
+        rows = ["-" if row is None else row for row in (c.row, c.other)]
+        return "nothing clears" if rows == ["-", "-"] else "rows {} {}".format(*rows)
+
+    def test_pairs(self):
+        for name, first, second, due in pairs():
+            with self.subTest(name):
+                self.assertEqual(self.said(first, second), due)
+
+    def test_losers(self):
+        """A loser, wherever it is put, changes nothing of what the others get; an offer at the price does."""
+        rows = clear(book(THREE)).rows
+        for at in range(4):
+            more = clear(book([*THREE[:at], offer(14, 37_501, 500), *THREE[at:]])).rows
+            self.assertEqual(more.pop(at), Row(14, 0, 0, 0))
+            self.assertEqual(more, rows)
+        self.assertNotEqual(clear(book([*THREE, offer(14, 37_500, 500)])).rows[:3], rows)
+        self.assertEqual(compare(book(THREE), memoryview(book(THREE))), Comparison(True, 3, None, None, None, Quote(*IN_ALL), Quote(*IN_ALL)))
+
+    def test_refused(self):
+        self.assertRaisesRegex(RefusedBook, "^book 2 is refused 1 at 0: length", compare, reference(), b"")
+        with self.assertRaises(Refusal) as refused:
+            compare(b"", reference())
+        self.assertEqual((refused.exception.args, refused.exception.where), ((1, 1, 0), "0"))
+
+
 class Words(unittest.TestCase):
     def test_words(self):
         self.assertEqual(words(6), "an offer has no price; the row")
@@ -128,7 +167,7 @@ class Words(unittest.TestCase):
             self.assertRaisesRegex(ValueError, f"^no refusal has number {number}$", words, number)
         self.assertEqual(report(book([])), "cleared 0\nprice -\ndaily 0\nyear 0\n")
         self.assertEqual(report(reference()).splitlines()[4], "13 33 50 637500")
-        self.assertEqual(version(), "0.2.0")
+        self.assertEqual(version(), "0.4.0")
 
     def test_names_and_words_are_the_header_s(self):
         header = (ROOT / "include" / "ozpinduru.h").read_text()

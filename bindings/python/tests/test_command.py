@@ -18,6 +18,11 @@ GIVEN = "curve --year 2026 --cost 146000 --offset 73000 --outage 2000 --requirem
 SETTING = {**os.environ, "PYTHONPATH": str(PYTHON)}
 
 
+def pair(name):
+    """The files of a pair of tests/comparisons."""
+    return [str(ROOT / "tests" / "comparisons" / f"{name}.{which}.book") for which in ("first", "second")]
+
+
 def ozp(*words, **streams):
     """Exit status, standard output and standard error of a run."""
     streams = {"stdout": subprocess.PIPE, "stderr": subprocess.PIPE, "env": SETTING, **streams}
@@ -47,6 +52,40 @@ class Says(unittest.TestCase):
         self.assertEqual(ozp(*GIVEN[:-2])[:2],
                          (1, "refused 4 at field 5 (reliability requirement): a parameter is missing\n"))
 
+    def test_compare(self):
+        side = "cleared 1,000.0 MW at $375.00 per MW-day; paid $375,637.500 a day, $137,107,687.500 a year"
+        head = "losers don't matter: the parameters and 3 offers at or below $375.00 per MW-day are the same"
+        over = "above the first's price"
+        self.assertEqual(ozp("compare", *pair("loser-added-between")),
+                         (0, f"{head}\n  first  {side}; 0 offers {over}\n  second {side}; 1 offer {over}\n", ""))
+        for name, why in {
+            "offer-at-the-price-altered": "row 1 of the first book and row 1 of the second differ: quantity 200 and 150",
+            "block-missing": "row 2 of the first book and row 2 of the second differ: block 50 and none",
+            "offer-at-the-price-added": "row 3 of the second book, resource 14 at $375.00 per MW-day, is at or below "
+                                        "$375.00 per MW-day, and the first has no such offer more",
+            "offer-at-the-price-taken-out": "row 2 of the first book, resource 13 at $375.00 per MW-day, is at or below "
+                                            "$375.00 per MW-day, and the second has no such offer more",
+            "two-fields-differ-the-lowest-first": "field 3 (revenue offset) differs, 73,000 and 73,001, and the curve or the year with it",
+            "nothing-clears-in-the-first": "nothing clears in the first book, so there is no price to compare to",
+        }.items():
+            status, said, _ = ozp("compare", *pair(name))
+            self.assertEqual((status, said.splitlines()[0]), (0, f"losers may matter: {why}"))
+        self.assertEqual(ozp("compare", "-", REFERENCE, input=reference())[0], 0)
+        self.assertEqual(ozp("compare", REFERENCE, UNPRICED)[:2], (1, f"{UNPRICED}: book 2 is refused 6 at row 0: an offer has no price\n"))
+
+    def test_compare_json(self):
+        books = pair("losers-of-another-kind")
+        status, said, _ = ozp("compare", "--json", *books)
+        found = json.loads(said)
+        self.assertEqual((status, found["books"], found["applies"], found["shared"], found["above"]), (0, books, True, 3, [1, 2]))
+        self.assertEqual(found["first"], found["second"])
+        apart = json.loads(ozp("compare", "--json", *pair("offer-at-the-price-taken-out"))[1])
+        self.assertEqual([apart[name] for name in ("applies", "field", "row", "other")], [False, None, 2, None])
+        nothing = json.loads(ozp("compare", "--json", *pair("nothing-clears-in-the-first"))[1])
+        self.assertEqual((nothing["above"], nothing["first"]["price"]), ([None, None], None))
+        self.assertEqual(json.loads(ozp("compare", "--json", UNPRICED, REFERENCE)[1])["refused"],
+                         {"book": 1, "number": 6, "place": 0, "where": "row 0", "when": "an offer has no price"})
+
     def test_json(self):
         status, said, _ = ozp("clear", "--json", REFERENCE, UNPRICED, NOTHING)
         cleared, refused, nothing = map(json.loads, said.splitlines())
@@ -61,7 +100,7 @@ class Says(unittest.TestCase):
         self.assertEqual(done.stdout.splitlines()[0], "cleared 1000.0 MW at $375.00 per MW-day")
 
     def test_help(self):
-        for words in ([], ["clear"], ["rows"], ["curve"]):
+        for words in ([], ["clear"], ["rows"], ["curve"], ["compare"]):
             status, said, wrong = ozp(*words, "--help")
             self.assertEqual((status, said.startswith("usage: ozp"), wrong), (0, True, ""))
 
@@ -88,7 +127,8 @@ class Fails(unittest.TestCase):
 
     def test_bad_usage(self):
         for words in ([], ["clear"], ["sell"], ["rows", "--loud", REFERENCE], ["curve"], ["curve", REFERENCE, "--year", "2026"],
-                      ["curve", "--cost", "1"], [*GIVEN, "--at", "-1"], ["curve", "--year", "soon"], ["clear", "-", "-"]):
+                      ["curve", "--cost", "1"], [*GIVEN, "--at", "-1"], ["curve", "--year", "soon"], ["clear", "-", "-"],
+                      ["compare", REFERENCE], ["compare", REFERENCE, REFERENCE, REFERENCE], ["compare", "-", "-"]):
             with self.subTest(words):
                 self.one_line(2, ozp(*words), "^ozp")
 
@@ -96,6 +136,7 @@ class Fails(unittest.TestCase):
         with tempfile.TemporaryDirectory() as folder:
             self.one_line(2, ozp("clear", folder), "Is a directory")
             self.one_line(2, ozp("rows", REFERENCE, f"{folder}/none", UNPRICED), "No such file")
+            self.one_line(2, ozp("compare", REFERENCE, f"{folder}/none"), "No such file")
             odd = os.path.join(os.fsencode(folder), b"odd\n\xff.book")
             self.one_line(2, ozp("clear", odd), "No such file")
             pathlib.Path(os.fsdecode(odd)).write_bytes(b"no book")
@@ -103,7 +144,7 @@ class Fails(unittest.TestCase):
         self.one_line(2, ozp("clear", "-", preexec_fn=lambda: os.close(0)), "standard input is shut")
 
     def test_unwritable(self):
-        for words in (["clear", REFERENCE], ["rows", "--json", REFERENCE], GIVEN, ["--help"], ["clear", "--help"], ["--version"]):
+        for words in (["clear", REFERENCE], ["rows", "--json", REFERENCE], ["compare", REFERENCE, REFERENCE], GIVEN, ["--help"], ["clear", "--help"], ["--version"]):
             with self.subTest(words), open("/dev/full", "w") as full:
                 self.one_line(2, ozp(*words, stdout=full), "No space left on device")
                 self.one_line(2, ozp(*words, preexec_fn=lambda: os.close(1), stdout=None), "standard output is shut")

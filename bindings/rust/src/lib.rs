@@ -22,6 +22,7 @@
 mod book;
 mod calendar;
 mod clearing;
+mod comparison;
 mod curve;
 pub mod raw;
 mod refusal;
@@ -31,6 +32,7 @@ mod units;
 pub use book::{read, Book, Offer, Parameters, MOST_ROWS};
 pub use calendar::days;
 pub use clearing::{clear, clear_into, quote, Clearing, Quote, Row};
+pub use comparison::{compare, Comparison};
 pub use curve::{curve, price_at, Curve, Point};
 pub use refusal::{Buffer, Field, Refusal};
 pub use text::{report, version, words};

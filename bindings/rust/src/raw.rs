@@ -9,6 +9,8 @@ pub const NONE: u32 = 2;
 pub const REFUSED: u32 = 3;
 /// A value that the book or the caller leaves out.
 pub const MISSING: u32 = 4;
+/// Two books differ: a field, or a row of either, says where.
+pub const DIFFERS: u32 = 5;
 
 /// The most bytes of a book.
 pub const BOOK_BYTES: usize = 20_992;
@@ -61,6 +63,10 @@ structs! {
     CurvePrice { kind: u32, price: u32, number: u32, place: u32 }
     /// What a book says.
     Contents { kind: u32, rows: u32, number: u32, place: u32, parameters: Parameters }
+    /// The comparison of two books.
+    Comparison {
+        kind: u32, price: u32, shared: u32, field: u32, row: u32, other: u32, book: u32, number: u32, place: u32,
+    }
     /// A text in lent room.
     Text { bytes: u64, kind: u32, number: u32, place: u32 }
 }
@@ -82,6 +88,7 @@ extern "C" {
     ) -> Answer;
     pub fn ozp_quote(book: *const u8, book_bytes: usize) -> Answer;
     pub fn ozp_read(book: *const u8, book_bytes: usize, rows: *mut Row, row_entries: usize) -> Contents;
+    pub fn ozp_compare(first: *const u8, first_bytes: usize, second: *const u8, second_bytes: usize) -> Comparison;
     pub fn ozp_curve(parameters: Parameters) -> CurvePoints;
     pub fn ozp_price_at(parameters: Parameters, k: u32) -> CurvePrice;
     pub fn ozp_make_whole(kind: u32, price: u32, cleared: u32, committed: u32) -> u64;

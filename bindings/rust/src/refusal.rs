@@ -55,6 +55,13 @@ pub enum Buffer {
 const FIELDS: [Field; 5] = [Field::Year, Field::Cost, Field::Offset, Field::Outage, Field::Requirement];
 const BUFFERS: [Buffer; 2] = [Buffer::Cleared, Buffer::Committed];
 
+impl Field {
+    /// The parameter of a field number.
+    pub fn of(number: u32) -> Option<Field> {
+        FIELDS.get((number as usize).wrapping_sub(1)).copied()
+    }
+}
+
 impl Refusal {
     /// The refusal's number in the table.
     pub fn number(self) -> u32 {
@@ -92,8 +99,8 @@ impl Refusal {
             1 if place == 0 => Some(Refusal::WrongLength),
             2 => Some(Refusal::WrongCheck { block: place }),
             3 => Some(Refusal::WrongLayout { block: place }),
-            4 => FIELDS.get(at).copied().map(Refusal::MissingParameter),
-            5 => FIELDS.get(at).copied().map(Refusal::ParameterOutOfRange),
+            4 => Field::of(place).map(Refusal::MissingParameter),
+            5 => Field::of(place).map(Refusal::ParameterOutOfRange),
             6 => Some(Refusal::UnpricedOffer { row: place }),
             7 => Some(Refusal::OfferOutOfRange { row: place }),
             8 => Some(Refusal::RepeatedResource { row: place }),

@@ -1,7 +1,9 @@
 //! The outline's reference book through the C interface.
 
-use ozpinduru::{clear, clear_into, curve, days, price_at, quote, read, report, version, words};
-use ozpinduru::{Buffer, CentsPerMwDay, DollarsPerMwYear, Field, Mills, Offer, Parameters, Point, Refusal, Row, Tenths};
+use ozpinduru::{clear, clear_into, compare, curve, days, price_at, quote, read, report, version, words};
+use ozpinduru::{
+    Buffer, CentsPerMwDay, Comparison, DollarsPerMwYear, Field, Mills, Offer, Parameters, Point, Refusal, Row, Tenths,
+};
 use std::fs;
 use std::path::Path;
 
@@ -122,4 +124,34 @@ fn words_and_versions() {
     assert_eq!(report(&book()[1..]), "refused 1 0\n");
     assert_eq!((words(6).as_deref(), words(0), words(u32::MAX)), (Some("an offer has no price; the row"), None, None));
     assert_eq!(format!("{}.{}.{}", version().0, version().1, version().2), env!("CARGO_PKG_VERSION"));
+}
+
+/// Each pair of tests/comparisons is answered as the line beside it says.
+#[test]
+fn compares_the_pairs_that_ship() {
+    let folder = Path::new(env!("CARGO_MANIFEST_DIR")).join("../../tests/comparisons");
+    let texts = fs::read_dir(folder).unwrap().map(|entry| entry.unwrap().path());
+    let texts: Vec<_> = texts.filter(|path| path.extension().is_some_and(|extension| extension == "txt")).collect();
+    assert!(texts.len() > 30);
+    for text in texts {
+        let [first, second] = ["first.book", "second.book"].map(|end| fs::read(text.with_extension(end)).unwrap());
+        let said = said(compare(&first, &second));
+        assert_eq!(said, fs::read_to_string(&text).unwrap().trim_end(), "{text:?}");
+        if said.starts_with("applies") {
+            let (one, two) = (clear(&first).unwrap(), clear(&second).unwrap());
+            assert_eq!((one.price, one.total, one.daily, one.year), (two.price, two.total, two.daily, two.year));
+        }
+    }
+}
+
+fn said(comparison: Comparison) -> String {
+    let row = |row: Option<usize>| row.map_or("-".to_string(), |row| row.to_string());
+    match comparison {
+        Comparison::Applies { price, shared } => format!("applies {} {shared}", price.0),
+        Comparison::FirstRefused(refusal) => format!("refused 1 {} {}", refusal.number(), refusal.place()),
+        Comparison::SecondRefused(refusal) => format!("refused 2 {} {}", refusal.number(), refusal.place()),
+        Comparison::NothingClears => "nothing clears".to_string(),
+        Comparison::ParametersDiffer(field) => format!("field {}", field as u32),
+        Comparison::OffersDiffer { row: one, other } => format!("rows {} {}", row(one), row(other)),
+    }
 }

@@ -14,3 +14,6 @@ pub mod Spares
 pub mod Cleared
 pub mod Committed
 pub mod Divided
+pub mod ByRow
+pub mod Shared
+pub mod Losers

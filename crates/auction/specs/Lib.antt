@@ -4,3 +4,4 @@ pub mod Shares
 pub mod Settlement
 pub mod Surplus
 pub mod Demands
+pub mod Losers

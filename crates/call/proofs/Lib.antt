@@ -7,3 +7,6 @@ pub mod Demands
 pub mod Nothing
 pub mod Blocks
 pub mod OneMore
+pub mod Shared
+pub mod SameSales
+pub mod Losers

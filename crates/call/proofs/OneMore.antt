@@ -52,7 +52,7 @@ module _ (c c′ : Contents) (m : OneMoreOffer c c′) where
       }
 
 -- a price that is quoted is there
-quoted-there : (x : Option ℕ) (p : CentsPerMwDay) → Price p ≡ asPrice x → x ≡ some (p .0)
+pub quoted-there : (x : Option ℕ) (p : CentsPerMwDay) → Price p ≡ asPrice x → x ≡ some (p .0)
 quoted-there none p e = cc
 quoted-there (some q) p e = cc
 

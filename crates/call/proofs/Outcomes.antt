@@ -21,11 +21,11 @@ use Rattle.call.specs.declared.Answer.the-variants.{Cleared as Answer·C
 use Rattle.call.proofs.Calls.{Callable, passed-callable}
 
 -- an answer with a clearing comes of a call with no fault
-answer-passed : (v : Verdict) (c k : Clearing) → Answer·Cleared k ≡ answerBy v c → v ≡ Passed
+pub answer-passed : (v : Verdict) (c k : Clearing) → Answer·Cleared k ≡ answerBy v c → v ≡ Passed
 answer-passed Passed c k e = refl
 answer-passed (Refused number place) c k e = cc
 
-answer-clearing : (v : Verdict) (c k : Clearing) → Answer·Cleared k ≡ answerBy v c → k ≡ c
+pub answer-clearing : (v : Verdict) (c k : Clearing) → Answer·Cleared k ≡ answerBy v c → k ≡ c
 answer-clearing Passed c k e = cc
 answer-clearing (Refused number place) c k e = cc
 

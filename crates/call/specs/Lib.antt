@@ -1,3 +1,4 @@
 pub mod Answer
 pub mod Demands
+pub mod Losers
 pub mod inner

@@ -24,3 +24,4 @@ pub mod Filling
 pub mod Keys
 pub mod FilledRows
 pub mod Listing
+pub mod Those

@@ -1,1 +1,2 @@
 pub mod Export
+pub mod Compared

@@ -1,4 +1,5 @@
 // What callers in other languages link.
+pub mod compared;
 pub mod export;
 pub mod read;
 pub mod texts;

@@ -1,7 +1,7 @@
 -- What the exported functions return: plain structs of numbers, as functions of the library's own answers.
 --
--- No kind is 0: 1 what was asked for is there, 2 there is none, 3 refused, 4 a value is missing. A field that has no value holds
--- all ones.
+-- No kind is 0: 1 what was asked for is there, 2 there is none, 3 refused, 4 a value is missing, 5 two books differ. A field that
+-- has no value holds all ones.
 -- In order: no value; the answer of a call; a row's make-whole. What a caller hands in stands in Given, a curve in Plotted, what
 -- a book says in Listed.
 -- Assumes nothing.

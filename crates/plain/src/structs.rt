@@ -1,7 +1,7 @@
 // What goes in and out of the exported functions: plain structs of numbers.
 //
 // No kind is 0, so that a struct of zeros is no answer: 1 says that what was asked for is there, 2 that there is none, 3 that
-// it is refused, 4 that a value is missing. A field that has no value holds all ones.
+// it is refused, 4 that a value is missing, 5 that two books differ. A field that has no value holds all ones.
 
 // All ones, in 32 bits and in 64.
 pub const NO_VALUE: u32 = 4294967295;
@@ -89,6 +89,20 @@ pub struct OzpContents {
 pub struct OzpText {
     pub bytes: u64,
     pub kind: u32,
+    pub number: u32,
+    pub place: u32,
+}
+
+// The comparison of two books.
+#[repr(C)]
+pub struct OzpComparison {
+    pub kind: u32,
+    pub price: u32,
+    pub shared: u32,
+    pub field: u32,
+    pub row: u32,
+    pub other: u32,
+    pub book: u32,
     pub number: u32,
     pub place: u32,
 }

@@ -7,6 +7,7 @@ mod compare;
 mod curve;
 mod days;
 mod layouts;
+mod pairs;
 mod reading;
 mod tally;
 mod texts;

@@ -5,6 +5,7 @@
 //! - `printed`: what the program `clear` prints for a book.
 //! - `row`: what the reader hands back for a row.
 //! - `curve`, `price_at`: the requirement curve.
+//! - `comparison::compare`: whether losers matter between two books.
 //!
 //! The rest by module: `book` reads and checks bytes, `limits` holds the ranges, `calendar` the days of delivery years, `clearing` is the auction as a function of a
 //! falling curve and priced offers, `make` writes books, `random` makes books and calls from a seed.
@@ -15,6 +16,7 @@
 pub mod book;
 pub mod calendar;
 pub mod clearing;
+pub mod comparison;
 pub mod curve;
 pub mod limits;
 pub mod make;

@@ -5,6 +5,7 @@
 
 mod columns;
 pub mod damage;
+pub mod pairs;
 pub mod valid;
 pub mod wrong;
 
