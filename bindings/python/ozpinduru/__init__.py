@@ -6,11 +6,11 @@ there is None, never 0: a clearing with no price cleared nothing, and an offer w
 from ._book import Book, Offer, Parameters, read
 from ._calendar import days
 from ._clearing import Clearing, Columns, Quote, Row, clear, clear_columns, quote
-from ._curve import Curve, curve, price_at
+from ._curve import Curve, ExactPrice, curve, price_at
 from ._refusal import Fault, Refusal, report, version, words
 
-__version__ = "0.2.0"
+__version__ = "0.3.0"
 __all__ = [
-    "Book", "Clearing", "Columns", "Curve", "Fault", "Offer", "Parameters", "Quote", "Refusal", "Row",
+    "Book", "Clearing", "Columns", "Curve", "ExactPrice", "Fault", "Offer", "Parameters", "Quote", "Refusal", "Row",
     "clear", "clear_columns", "curve", "days", "price_at", "quote", "read", "report", "version", "words",
 ]

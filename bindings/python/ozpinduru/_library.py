@@ -6,7 +6,7 @@ import os
 import pathlib
 from typing import Any
 
-VERSION = (0, 2, 0)
+VERSION = (0, 3, 0)
 
 # kinds
 GIVEN, NONE, REFUSED, MISSING = 1, 2, 3, 4
@@ -28,7 +28,7 @@ Parameters = _struct("ozp_parameters", (_word, "year"), (Value, "cost offset out
 Row = _struct("ozp_row", (_amount, "stamp"), (_word, "resource seller quantity"), (Value, "price block"))
 Answer = _struct("ozp_answer", (_amount, "make_whole daily year"), (_word, "kind total price rows number place"))
 CurvePoints = _struct("ozp_curve_points", (_word, "kind p1 p2 p3 q1 q2 q3 number place"))
-CurvePrice = _struct("ozp_curve_price", (_word, "kind price number place"))
+CurvePrice = _struct("ozp_curve_price", (_word, "kind cents remainder divisor number place"))
 Contents = _struct("ozp_contents", (_word, "kind rows number place"), (Parameters, "parameters"))
 Text = _struct("ozp_text", (_amount, "bytes"), (_word, "kind number place"))
 STRUCTS = (Value, Parameters, Row, Answer, CurvePoints, CurvePrice, Contents, Text)

@@ -23,7 +23,7 @@ pub enum ExactCurvePrice {
 
 // The price on the line from (qa, pa) to (qb, pb) at k.
 fn between(pa: u32, pb: u32, qa: u32, qb: u32, k: u32) -> ExactPrice
-    requires { ⌜ (pb ≤ pa) × (qa < k) × (k ≤ qb) ⌝ }
+    requires { ⌜ (pb ≤ pa) × (qa < qb) × (qa ≤ k) × (k ≤ qb) ⌝ }
     ensures { λ r. ⌜ r ≡ exactLine pa pb qa qb k ⌝ }
 {
     let before = pa as u64 * (qb - k) as u64;

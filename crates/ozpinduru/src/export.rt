@@ -10,7 +10,7 @@ use crate::structs::OzpPrice;
 use calendar::days_of;
 use call::clear;
 use call::quote;
-use curve::price_at;
+use curve::exact::price_at;
 use limits::given::parameters_verdict;
 use market::price::ClearingPrice;
 use region::region_curve;
@@ -55,7 +55,7 @@ pub extern "C" fn ozp_curve(parameters: OzpParameters) -> OzpCurve
     plotted::curve(region_curve(p))
 }
 
-// The price at a quantity of the curve that parameters make.
+// The price at a quantity of the curve that parameters make, between cents.
 #[no_mangle]
 pub extern "C" fn ozp_price_at(parameters: OzpParameters, k: u32) -> OzpPrice
     ensures { λ r. ⌜ r ≡ exportedPrice (parametersIn parameters) k ⌝ }
@@ -98,5 +98,5 @@ pub extern "C" fn ozp_days(year: u32) -> u32
 pub extern "C" fn ozp_version() -> u32
     ensures { λ r. ⌜ r ≡ version ⌝ }
 {
-    2000
+    3000
 }

@@ -18,7 +18,7 @@ dividend-fits : (c : tie.Start)
     → c .args .pa * (c .args .qb - c .args .k) + c .args .pb * (c .args .k - c .args .qa) ≤ 4294967295 * 4294967295
 dividend-fits c =
     let a = c .args in
-    le-trans (dividend-most (a .pa) (a .pb) (a .qa) (a .qb) (a .k) (c .pre .0) (search needs) (c .pre .2))
+    le-trans (dividend-most (a .pa) (a .pb) (a .qa) (a .qb) (a .k) (c .pre .0) (c .pre .2) (c .pre .3))
     (mul-le-mul {n₂ = 4294967295} {m₂ = 4294967295} (omega arith) (omega arith))
 
 sub-before : tie.Need-sub-before
@@ -55,7 +55,7 @@ cast-cents-2 : tie.Need-cast-cents-2
 unfolding line
 cast-cents-2 c =
     let a = c .args in
-    omega (arith, line-most (a .pa) (a .pb) (a .qa) (a .qb) (a .k) (c .pre .0) (search needs) (search needs) (c .pre .2))
+    omega (arith, line-most (a .pa) (a .pb) (a .qa) (a .qb) (a .k) (c .pre .0) (c .pre .1) (c .pre .2) (c .pre .3))
 
 cast-remainder : tie.Need-cast-remainder
 cast-remainder c = search needs
@@ -67,7 +67,7 @@ cast-remainder-2 : tie.Need-cast-remainder-2
 unfolding exactLine
 cast-remainder-2 c =
     let a = c .args in
-    omega (arith, line-remainder (a .pa) (a .pb) (a .qa) (a .qb) (a .k) (search needs))
+    omega (arith, line-remainder (a .pa) (a .pb) (a .qa) (a .qb) (a .k) (c .pre .1))
 
 returns : tie.Need-returns
 unfolding line exactLine
