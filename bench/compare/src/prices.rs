@@ -41,7 +41,7 @@ pub fn compare() {
         ("exact price on the level stretch", 5_000),
         ("exact price on the first line", 10_001),
         ("exact price on the second line", 10_151),
-        ("no price past the last point", 10_451),
+        ("exact price past the last point: none", 10_451),
     ] {
         agree(name, k);
         let [library, plain, through] = best([

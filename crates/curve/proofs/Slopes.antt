@@ -80,7 +80,7 @@ module _ (c : Curve) (s : Shaped c) where
       fractions-mono _ (exactPrice c k .divisor) _ (exactPrice c j .divisor) _ _ (c .q3 - c .q2) (omega arith)
       (as-second k (le-trans a l)) (as-second j a) (dividend-falls _ 0 _ _ j k (omega arith) a l u)
 
-  -- the exact price never rises
+  -- the exact price, as a fraction, never rises
   pub exact-falls : (j k : ℕ) → j ≤ k → k ≤ c .q3 → AtMost (exactPrice c k) (exactPrice c j)
   exact-falls j k =
       drops-joined 0 (c .q1) (c .q3) level-drops (drops-joined (c .q1) (c .q2) (c .q3) first-drops second-drops) j k (omega arith)
@@ -93,7 +93,7 @@ module _ (c : Curve) (s : Shaped c) where
       (as-first k a (le-of-lt u)) (as-first (k + 1) (omega arith) (omega arith))
       (line-step _ _ _ _ k (s .prices-fall) a u)
 
-  -- and from Q2 to Q3 by P2 over the width
+  -- from Q2 to Q3 each tenth is less than the one before it by the same fraction, P2 over the width
   pub exact-step-second : (k : ℕ) → c .q2 ≤ k → k < c .q3
       → MoreBy (exactPrice c k) (exactPrice c (k + 1)) (c .p2 .0) (c .q3 - c .q2)
   exact-step-second k a u =

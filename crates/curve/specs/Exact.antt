@@ -15,7 +15,7 @@ use Rattle.curve.specs.declared.exact.ExactCurvePrice.{ExactCurvePrice}
 use Rattle.curve.specs.declared.exact.ExactCurvePrice.the-variants.{Price, NoPrice}
 use Rattle.curve.specs.Price.{line}
 
--- what `line` divides by the width qb − qa: the exact price on the line from (qa, pa) to (qb, pb) at k is this over the width
+-- the line from (qa, pa) to (qb, pb) at k, exactly, is this over its width qb − qa: what `line` divides
 abbrev pub lineNumerator : ℕ → ℕ → ℕ → ℕ → ℕ → ℕ
 lineNumerator pa pb qa qb k = pa * (qb - k) + pb * (k - qa)
 
@@ -39,7 +39,7 @@ exactPrice c k =
     (cond (leb k (c .q2)) (exactLine (c .p1 .0) (c .p2 .0) (c .q1) (c .q2) k)
     (exactLine (c .p2 .0) 0 (c .q2) (c .q3) k))
 
--- past Q3 there is no price
+-- what a curve says of k between cents: the price up to Q3; past Q3 there is none
 unfoldable pub exactCurvePrice : Curve → ℕ → ExactCurvePrice
 exactCurvePrice c k = cond (leb k (c .q3)) (Price (exactPrice c k)) NoPrice
 
@@ -57,7 +57,7 @@ AtMost a b = numerator a * b .divisor ≤ numerator b * a .divisor
 abbrev pub MoreBy : ExactPrice → ExactPrice → ℕ → ℕ → Type 0
 MoreBy a b n d = numerator a * (b .divisor * d) ≡ numerator b * (a .divisor * d) + n * (a .divisor * b .divisor)
 
--- what a curve says, in whole cents
+-- what a curve says, in whole cents: the cents of its price, or that there is none
 abbrev pub centsSaid : ExactCurvePrice → CurvePrice
 centsSaid (Price e) = CurvePrice·Price (e .cents)
 centsSaid NoPrice = CurvePrice·NoPrice

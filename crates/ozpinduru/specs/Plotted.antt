@@ -56,7 +56,7 @@ exportedCurve p = pointsBy (parametersFault p) (pointsOf (regionCurve p))
 
 -- ---- its price at a quantity
 
--- whole cents with a remainder and its divisor
+-- a price: whole cents with a remainder and its divisor
 abbrev pub priceGiven : ExactPrice → OzpPrice
 priceGiven e =
     record {
@@ -68,11 +68,12 @@ priceGiven e =
       place = noValue;
     }
 
--- an answer of another kind has neither of the three
+-- an answer of another kind has none of the three
 abbrev pub withoutPrice : ℕ → ℕ → ℕ → OzpPrice
 withoutPrice kind number place =
     record { kind = kind; cents = noValue; remainder = noValue; divisor = noValue; number = number; place = place }
 
+-- what a curve says of a quantity, or the refusal of its parameters
 abbrev pub plottedPrice : ExactCurvePrice → OzpPrice
 plottedPrice (Price e) = priceGiven e
 plottedPrice NoPrice = withoutPrice 2 noValue noValue
