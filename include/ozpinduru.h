@@ -1,7 +1,8 @@
 /* ozpinduru: clears a capacity auction of one region from a book of bytes. For x86-64 Linux.
  *
  * Units. Quantities are tenths of a megawatt, prices whole cents per MW-day, amounts mills (tenths of a cent), costs whole
- * dollars per MW-year, the outage rate hundredths of a percent. No amount is rounded.
+ * dollars per MW-year, the outage rate hundredths of a percent. No amount is rounded. ozp_price_at alone says what lies between
+ * two cents.
  *
  * Every function answers every input, and its answer is proved to be the one described here. None keeps state, allocates or
  * looks at anything but its arguments, so any number of threads may call at once, also on one book. Of the C library they use
@@ -92,8 +93,11 @@ typedef struct {
 /* The three points of a curve, (q1, p1), (q2, p2), (q3, p3): OZP_GIVEN, with p3 0, or OZP_REFUSED with number and place. */
 typedef struct { uint32_t kind, p1, p2, p3, q1, q2, q3, number, place; } ozp_curve_points;
 
-/* The price of a curve at a quantity: OZP_GIVEN with the price, OZP_NONE past q3, or OZP_REFUSED with number and place. */
-typedef struct { uint32_t kind, price, number, place; } ozp_curve_price;
+/* The price of a curve at a quantity, between cents: OZP_GIVEN with whole cents and `remainder` over `divisor` of a cent,
+ * OZP_NONE past q3, or OZP_REFUSED with number and place. The cents are the price rounded down, by which books clear. The
+ * remainder is under the divisor: up to q1, with q1, it is 0 over 1; past q1, to q2, the divisor is q2 - q1, and past q2 it is
+ * q3 - q2. Of two prices with equal cents the larger has the larger remainder times the other's divisor, in 64 bits. */
+typedef struct { uint32_t kind, cents, remainder, divisor, number, place; } ozp_curve_price;
 
 /* What a book says: OZP_GIVEN with rows and parameters, or OZP_REFUSED with number and place, when the kind of every
  * parameter is OZP_NONE. */
@@ -150,7 +154,7 @@ ozp_comparison ozp_compare(const uint8_t *first, size_t first_bytes, const uint8
  * year is 2026 to 2099, C 1 to 1,000,000, E 0 to C, F 0 to 5,000 and R 1,000 to 2,000,000. */
 ozp_curve_points ozp_curve(ozp_parameters parameters);
 
-/* The price at quantity k of the curve that parameters make, refused as by ozp_curve. */
+/* The price at quantity k of the curve that parameters make, between cents, refused as by ozp_curve. */
 ozp_curve_price ozp_price_at(ozp_parameters parameters, uint32_t k);
 
 /* A row's make-whole in mills a day, from the kind and the price of the answer and the row's entries of the two buffers: with

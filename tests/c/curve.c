@@ -28,8 +28,9 @@ static void expect_no_curve(ozp_parameters p, unsigned number, unsigned place)
     expect(c.p1 == OZP_NO_VALUE && c.p2 == OZP_NO_VALUE && c.p3 == OZP_NO_VALUE && c.q1 == OZP_NO_VALUE && c.q2 == OZP_NO_VALUE
                && c.q3 == OZP_NO_VALUE,
            "curve", "no points");
-    expect(at.kind == OZP_REFUSED && at.number == number && at.place == place && at.price == OZP_NO_VALUE, "curve",
-           "no price of refused parameters");
+    expect(at.kind == OZP_REFUSED && at.number == number && at.place == place && at.cents == OZP_NO_VALUE
+               && at.remainder == OZP_NO_VALUE && at.divisor == OZP_NO_VALUE,
+           "curve", "no price of refused parameters");
 }
 
 static ozp_value *field(ozp_parameters *p, unsigned place)
@@ -57,9 +58,53 @@ static void kinds(void)
     }
 }
 
+/* parameters, a quantity, and the price there: cents, remainder, divisor */
+static void expect_price(ozp_parameters p, uint32_t k, uint32_t cents, uint32_t remainder, uint32_t divisor)
+{
+    ozp_curve_price at = ozp_price_at(p, k);
+    expect(at.kind == OZP_GIVEN && at.number == OZP_NO_VALUE && at.place == OZP_NO_VALUE, "curve", "a price");
+    expect(at.cents == cents && at.remainder == remainder && at.divisor == divisor, "curve", "price between cents");
+}
+
+static void expect_none(ozp_parameters p, uint32_t k)
+{
+    ozp_curve_price at = ozp_price_at(p, k);
+    expect(at.kind == OZP_NONE && at.number == OZP_NO_VALUE && at.place == OZP_NO_VALUE, "curve", "past Q3");
+    expect(at.cents == OZP_NO_VALUE && at.remainder == OZP_NO_VALUE && at.divisor == OZP_NO_VALUE, "curve", "no price past Q3");
+}
+
+/* the corners of the reference curve, of one that comes down to 0 at Q2, of one of zeros, and of the largest */
+static void between_cents(void)
+{
+    static const uint32_t at[][4] = {
+        {0, 50000, 0, 1},      {9900, 50000, 0, 1},      {9901, 49875, 0, 250},  {10000, 37500, 0, 250},
+        {10150, 18750, 0, 250}, {10151, 18687, 150, 300}, {10449, 62, 150, 300}, {10450, 0, 0, 300},
+    };
+    ozp_parameters reference = all(2026, 146000, 73000, 2000, 10000), down = all(2026, 146000, 146000, 2000, 1001);
+    ozp_parameters zeros = all(2026, 1, 0, 0, 1000), largest = all(2099, 1000000, 0, 5000, 2000000);
+    size_t i;
+    for (i = 0; i < LENGTH(at); i++)
+        expect_price(reference, at[i][0], at[i][1], at[i][2], at[i][3]);
+    expect_none(reference, 10451);
+    expect_none(reference, UINT32_MAX);
+    expect_price(down, 991, 50000, 0, 1);
+    expect_price(down, 992, 48000, 0, 25);
+    expect_price(down, 1016, 0, 0, 25);
+    expect_price(down, 1017, 0, 0, 30);
+    expect_none(down, 1047);
+    expect_price(zeros, 990, 0, 0, 1);
+    expect_price(zeros, 991, 0, 0, 25);
+    expect_price(zeros, 1045, 0, 0, 30);
+    expect_price(largest, 1980000, 958904, 0, 1);
+    expect_price(largest, 1980001, 958893, 2055, 50000);
+    expect_price(largest, 2030000, 410959, 0, 50000);
+    expect_price(largest, 2030001, 410952, 9041, 60000);
+    expect_price(largest, 2090000, 0, 0, 60000);
+    expect_none(largest, 2090001);
+}
+
 void curve(void)
 {
-    static const uint32_t at[][2] = {{0, 50000}, {9900, 50000}, {10000, 37500}, {10150, 18750}, {10151, 18687}, {10450, 0}};
     static const uint32_t wrong[][6] = {
         {2025, 0, 0, 5001, 0, OZP_YEAR},           {2100, 1, 0, 0, 1000, OZP_YEAR},
         {2026, 0, 0, 0, 1000, OZP_COST},           {2026, 1000001, 0, 0, 1000, OZP_COST},
@@ -68,7 +113,6 @@ void curve(void)
     };
     ozp_parameters reference = all(2026, 146000, 73000, 2000, 10000);
     ozp_curve_points c = ozp_curve(reference);
-    ozp_curve_price p;
     size_t i;
     expect(c.kind == OZP_GIVEN && c.number == OZP_NO_VALUE && c.place == OZP_NO_VALUE, "curve", "kind");
     expect(c.p1 == 50000 && c.p2 == 18750 && c.p3 == 0, "curve", "prices");
@@ -77,17 +121,11 @@ void curve(void)
     expect(c.p1 == 87500 && c.p2 == 37500, "curve", "offset 0");
     c = ozp_curve(all(2026, 146000, 146000, 2000, 1000));
     expect(c.p1 == 50000 && c.p2 == 0 && c.q1 == 990 && c.q2 == 1015 && c.q3 == 1045, "curve", "offset of the cost, least requirement");
-    for (i = 0; i < LENGTH(at); i++) {
-        p = ozp_price_at(reference, at[i][0]);
-        expect(p.kind == OZP_GIVEN && p.price == at[i][1] && p.number == OZP_NO_VALUE && p.place == OZP_NO_VALUE, "curve", "price at");
-    }
-    p = ozp_price_at(reference, 10451);
-    expect(p.kind == OZP_NONE && p.price == OZP_NO_VALUE && p.number == OZP_NO_VALUE && p.place == OZP_NO_VALUE, "curve", "past Q3");
-    expect(ozp_price_at(reference, UINT32_MAX).kind == OZP_NONE, "curve", "far past Q3");
     for (i = 0; i < LENGTH(wrong); i++) {
         const uint32_t *w = wrong[i];
         expect_no_curve(all(w[0], w[1], w[2], w[3], w[4]), OZP_PARAMETER_OUT_OF_RANGE, w[5]);
     }
+    between_cents();
     kinds();
 }
 

@@ -71,7 +71,9 @@ static void curves(void)
     LAST(ozp_curve_points, place);
     STRUCT(ozp_curve_price);
     FIELD(ozp_curve_price, kind);
-    FIELD(ozp_curve_price, price);
+    FIELD(ozp_curve_price, cents);
+    FIELD(ozp_curve_price, remainder);
+    FIELD(ozp_curve_price, divisor);
     FIELD(ozp_curve_price, number);
     LAST(ozp_curve_price, place);
 }

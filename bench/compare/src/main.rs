@@ -3,6 +3,7 @@
 //! "plain" finds repeats with the standard HashSet and orders ties with a sort; "tuned" has a quicker hash and a selection.
 
 mod books;
+mod prices;
 mod timing;
 
 use books::{cases, Case};
@@ -20,6 +21,8 @@ fn main() {
         "microseconds a call", "library", "plain", "ratio", "tuned", "ratio"
     );
     cases.iter().for_each(compare);
+    println!();
+    prices::compare();
     println!();
     println!("{:<42} {:>8} {:>8} {:>8}", "the library's time, in microseconds, for", "form", "rows", "auction");
     cases.iter().filter(|case| accepted(&case.book)).for_each(stages);

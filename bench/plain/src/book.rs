@@ -3,7 +3,7 @@
 use crate::block::{check_holds, head_laid_out, u16_at, u32_at, zero, BLOCK};
 use crate::curve::Curve;
 use crate::manner::Manner;
-use crate::Fault;
+use crate::{Fault, Given};
 use std::collections::HashSet;
 
 const PLACE: usize = 32;
@@ -79,6 +79,14 @@ impl Book {
 }
 
 impl Parameters {
+    /// Parameters that are handed in, and in no book.
+    pub fn given(given: Given) -> Parameters {
+        let values = [given.cost, given.offset, given.outage, given.requirement];
+        let marks = (0..4).map(|at| u8::from(values[at].is_some()) << at).sum();
+        let [cost, offset, outage, requirement] = values.map(Option::unwrap_or_default);
+        Parameters { year: given.year, cost, offset, outage, requirement, marks }
+    }
+
     fn read(head: &[u8; BLOCK]) -> Parameters {
         Parameters {
             year: u16_at(head, 6),

@@ -9,6 +9,14 @@ pub struct Curve {
     p2: u64,
 }
 
+/// A price: whole cents, and a remainder over its divisor.
+#[derive(Clone, Copy, Debug, PartialEq, Eq)]
+pub struct ExactPrice {
+    pub cents: u32,
+    pub remainder: u32,
+    pub divisor: u32,
+}
+
 impl Curve {
     pub fn new(cost: u32, offset: u32, outage: u32, requirement: u32) -> Curve {
         let (cost, net, requirement) = (u64::from(cost), u64::from(cost - offset), u64::from(requirement));
@@ -31,6 +39,20 @@ impl Curve {
         } else {
             self.p2 * (self.q3 - k) / (self.q3 - self.q2)
         }
+    }
+
+    /// The price at any quantity, between cents.
+    pub fn exact_at(&self, k: u64) -> Option<ExactPrice> {
+        let (parts, divisor) = if k <= self.q1 {
+            (self.p1, 1)
+        } else if k <= self.q2 {
+            (self.p1 * (self.q2 - k) + self.p2 * (k - self.q1), self.q2 - self.q1)
+        } else if k <= self.q3 {
+            (self.p2 * (self.q3 - k), self.q3 - self.q2)
+        } else {
+            return None;
+        };
+        Some(ExactPrice { cents: (parts / divisor) as u32, remainder: (parts % divisor) as u32, divisor: divisor as u32 })
     }
 
     /// Whether the price at a quantity is at least this one, which is not over the highest.

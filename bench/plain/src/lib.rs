@@ -5,6 +5,7 @@
 //! clears in part. Nothing is written into the buffers before the whole book is known to be good.
 //!
 //! `clear` finds repeats with the standard HashSet and orders ties with a sort; `clear_tuned` has a quicker hash and a selection.
+//! `price_at` is the curve's price at a quantity, between cents.
 
 mod auction;
 mod block;
@@ -12,8 +13,10 @@ mod book;
 mod curve;
 mod manner;
 
+pub use curve::ExactPrice;
+
 use auction::Auction;
-use book::{Book, Offer};
+use book::{Book, Offer, Parameters};
 use manner::{Manner, Tuned, Usual};
 
 /// A refusal's number and place.
@@ -43,6 +46,21 @@ pub fn clear(bytes: &[u8], cleared: &mut [u32], committed: &mut [u32]) -> Outcom
 /// The same, with a quicker hash and a selection in the place of a sort.
 pub fn clear_tuned(bytes: &[u8], cleared: &mut [u32], committed: &mut [u32]) -> Outcome {
     outcome(try_clear::<Tuned>(bytes, cleared, committed))
+}
+
+/// The parameters of a region as a caller has them, each of the last four given or missing.
+#[derive(Clone, Copy, Debug)]
+pub struct Given {
+    pub year: u16,
+    pub cost: Option<u32>,
+    pub offset: Option<u32>,
+    pub outage: Option<u32>,
+    pub requirement: Option<u32>,
+}
+
+/// The price at a quantity of the curve that parameters make, between cents; none past the last point.
+pub fn price_at(given: Given, k: u32) -> Result<Option<ExactPrice>, Fault> {
+    Ok(Parameters::given(given).curve()?.exact_at(u64::from(k)))
 }
 
 fn outcome(result: Result<Clearing, Fault>) -> Outcome {

@@ -1,7 +1,10 @@
-//! The same answers as the oracle's, and the same buffers, on the calls of 20,000 seeds, or of as many as CALLS says.
+//! The same answers as the oracle's, and the same buffers, on the calls of 20,000 seeds, or of as many as CALLS says; and the same
+//! prices of the curve that their books' parameters make.
 
+use oracle::book::Parameters;
 use oracle::random::{call, Call};
-use plain::{clear, clear_tuned, Clearing, Outcome};
+use oracle::{exact_price_at, limits};
+use plain::{clear, clear_tuned, price_at, Clearing, ExactPrice, Given, Outcome};
 
 type Clear = fn(&[u8], &mut [u32], &mut [u32]) -> Outcome;
 
@@ -25,10 +28,13 @@ fn expected(call: &Call) -> (Outcome, Vec<u32>, Vec<u32>) {
     (outcome, cleared, committed)
 }
 
+fn seeds() -> std::ops::Range<u64> {
+    0..std::env::var("CALLS").map_or(20_000, |calls| calls.parse().unwrap())
+}
+
 #[test]
 fn random_calls() {
-    let calls = std::env::var("CALLS").map_or(20_000, |calls| calls.parse().unwrap());
-    for seed in 0..calls {
+    for seed in seeds() {
         let call = call(seed);
         let due = expected(&call);
         for (name, clear) in [("plain", clear as Clear), ("tuned", clear_tuned)] {
@@ -36,6 +42,25 @@ fn random_calls() {
             let mut committed = vec![UNTOUCHED; call.committed_len];
             let outcome = clear(&call.book, &mut cleared, &mut committed);
             assert!((outcome, cleared, committed) == due, "{name}, seed {seed}: {outcome:?}, {:?}", due.0);
+        }
+    }
+}
+
+#[test]
+fn random_prices() {
+    for (seed, book) in seeds().filter_map(|seed| Some((seed, oracle::book::read(&call(seed).book).ok()?))) {
+        let p = book.parameters;
+        let Parameters { cost, offset, outage, requirement, .. } = p;
+        let given = Given { year: p.year.try_into().unwrap(), cost, offset, outage, requirement };
+        if let Some(fault) = limits::missing(&p).or_else(|| limits::out_of_range(&p)) {
+            assert_eq!(price_at(given, 0), Err(fault), "seed {seed}");
+            continue;
+        }
+        let points = p.curve();
+        for k in points.map(|point| point.quantity).into_iter().flat_map(|q| [q - 1, q, q + 1]) {
+            let due = exact_price_at(&points, k);
+            let due = due.map(|p| ExactPrice { cents: p.cents, remainder: p.remainder, divisor: p.divisor });
+            assert_eq!(price_at(given, k), Ok(due), "seed {seed} at {k}");
         }
     }
 }

@@ -7,11 +7,12 @@ from ._book import Book, Offer, Parameters, read
 from ._calendar import days
 from ._clearing import Clearing, Columns, Quote, Row, clear, clear_columns, quote
 from ._comparison import Comparison, RefusedBook, compare
-from ._curve import Curve, curve, price_at
+from ._curve import Curve, ExactPrice, curve, price_at
 from ._refusal import Fault, Refusal, report, version, words
 
 __version__ = "0.4.0"
 __all__ = [
-    "Book", "Clearing", "Columns", "Comparison", "Curve", "Fault", "Offer", "Parameters", "Quote", "Refusal", "RefusedBook", "Row",
+    "Book", "Clearing", "Columns", "Comparison", "Curve", "ExactPrice", "Fault", "Offer", "Parameters", "Quote", "Refusal",
+    "RefusedBook", "Row",
     "clear", "clear_columns", "compare", "curve", "days", "price_at", "quote", "read", "report", "version", "words",
 ]

@@ -95,8 +95,9 @@ class Reads(unittest.TestCase):
 class Curves(unittest.TestCase):
     def test_points_and_prices(self):
         self.assertEqual(curve(GIVEN), Curve(p1=50_000, q1=9_900, p2=18_750, q2=10_150, p3=0, q3=10_450))
-        prices = {0: 50_000, 9_900: 50_000, 10_000: 37_500, 10_151: 18_687, 10_450: 0, 10_451: None, 2**32: None, 10**30: None}
-        self.assertEqual({k: price_at(GIVEN, k) for k in prices}, prices)
+        prices = {0: 50_000, 9_900: 50_000, 10_000: 37_500, 10_151: 18_687, 10_450: 0}
+        self.assertEqual({k: price_at(GIVEN, k).cents for k in prices}, prices)
+        self.assertEqual([price_at(GIVEN, k) for k in (10_451, 2**32, 10**30)], [None] * 3)
 
     def test_refusals(self):
         names = ("year", "cost", "offset", "outage", "requirement")

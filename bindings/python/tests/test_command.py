@@ -48,6 +48,7 @@ class Says(unittest.TestCase):
         self.assertEqual(ozp(*GIVEN), (0, f"{points}\n", ""))
         self.assertEqual(ozp("curve", REFERENCE, "--at", "10000")[:2],
                          (0, f"{REFERENCE}: {points}; at 1,000.0 MW: $375.00 per MW-day\n"))
+        self.assertTrue(ozp(*GIVEN, "--at", "10151")[1].endswith("; at 1,015.1 MW: $186.87 per MW-day and 150/300 of a cent\n"))
         self.assertIn("past the last point", ozp(*GIVEN, "--at", "10451")[1])
         self.assertEqual(ozp(*GIVEN[:-2])[:2],
                          (1, "refused 4 at field 5 (reliability requirement): a parameter is missing\n"))
@@ -93,7 +94,8 @@ class Says(unittest.TestCase):
         self.assertEqual(refused["refused"], {"number": 6, "place": 0, "where": "row 0", "when": "an offer has no price"})
         self.assertEqual(json.loads(ozp("rows", "--json", REFERENCE)[1])["rows"][2],
                          {"resource": 13, "cleared": 33, "committed": 50, "make_whole": 637_500})
-        self.assertEqual(json.loads(ozp(*GIVEN, "--json", "--at", "10451")[1])["price_at"], None)
+        self.assertEqual([json.loads(ozp(*GIVEN, "--json", "--at", k)[1])["price_at"] for k in ("10151", "10451")],
+                         [{"cents": 18_687, "remainder": 150, "divisor": 300}, None])
 
     def test_example(self):
         done = subprocess.run([sys.executable, str(PYTHON / "example.py")], capture_output=True, text=True, check=True)

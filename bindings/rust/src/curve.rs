@@ -1,7 +1,7 @@
 //! The requirement curve.
 
 use crate::raw;
-use crate::{CentsPerMwDay, Parameters, Refusal, Tenths};
+use crate::{CentsPerMwDay, ExactPrice, Parameters, Refusal, Tenths};
 
 /// The three points of a curve.
 #[derive(Clone, Copy, Debug, PartialEq, Eq)]
@@ -37,13 +37,23 @@ pub fn curve(parameters: &Parameters) -> Result<Curve, Refusal> {
     }
 }
 
-/// The price at a quantity of the curve that parameters make; none past the curve's last point.
-pub fn price_at(parameters: &Parameters, k: Tenths) -> Result<Option<CentsPerMwDay>, Refusal> {
+/// The price at a quantity of the curve that parameters make, between cents; none past the curve's last point.
+///
+/// ```
+/// use ozpinduru::{price_at, CentsPerMwDay, Tenths};
+/// let parameters = ozpinduru::read(&std::fs::read("../../examples/reference.book").unwrap())?.parameters;
+/// let price = price_at(&parameters, Tenths(10_151))?.unwrap();
+/// assert_eq!((price.cents(), price.remainder(), price.divisor()), (CentsPerMwDay(18_687), 150, 300));
+/// assert!(price > price.cents().into());
+/// assert_eq!(price_at(&parameters, Tenths(10_451))?, None);
+/// # Ok::<(), ozpinduru::Refusal>(())
+/// ```
+pub fn price_at(parameters: &Parameters, k: Tenths) -> Result<Option<ExactPrice>, Refusal> {
     // SAFETY: the call takes numbers alone, and is defined for all of them.
     let price = unsafe { raw::ozp_price_at((*parameters).into(), k.0) };
     match price.kind {
         raw::REFUSED => Err(Refusal::of(price.number, price.place)),
-        raw::GIVEN => Ok(Some(CentsPerMwDay(price.price))),
+        raw::GIVEN => Ok(Some(ExactPrice::of(price.cents, price.remainder, price.divisor))),
         raw::NONE => Ok(None),
         kind => raw::unknown(kind),
     }

@@ -59,8 +59,8 @@ structs! {
     }
     /// The three points of a curve.
     CurvePoints { kind: u32, p1: u32, p2: u32, p3: u32, q1: u32, q2: u32, q3: u32, number: u32, place: u32 }
-    /// The price of a curve at a quantity.
-    CurvePrice { kind: u32, price: u32, number: u32, place: u32 }
+    /// The price of a curve at a quantity, between cents.
+    CurvePrice { kind: u32, cents: u32, remainder: u32, divisor: u32, number: u32, place: u32 }
     /// What a book says.
     Contents { kind: u32, rows: u32, number: u32, place: u32, parameters: Parameters }
     /// The comparison of two books.

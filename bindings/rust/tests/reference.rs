@@ -82,7 +82,7 @@ fn the_curve_has_its_points_and_prices() {
     let point = |(quantity, price)| Point { quantity: Tenths(quantity), price: CentsPerMwDay(price) };
     assert_eq!(curve(&REFERENCE).unwrap().points, [(9_900, 50_000), (10_150, 18_750), (10_450, 0)].map(point));
     for (k, price) in [(0, 50_000), (9_900, 50_000), (10_000, 37_500), (10_151, 18_687), (10_450, 0)] {
-        assert_eq!(price_at(&REFERENCE, Tenths(k)), Ok(Some(CentsPerMwDay(price))));
+        assert_eq!(price_at(&REFERENCE, Tenths(k)).unwrap().unwrap().cents(), CentsPerMwDay(price));
     }
     assert_eq!([10_451, u32::MAX].map(|k| price_at(&REFERENCE, Tenths(k))), [Ok(None); 2]);
 }

@@ -4,13 +4,13 @@ use mathlib.Core.Path.{_≡_, sym, _∙_}
 use Prim.Native.Nat.{ℕ}
 use Rattle.units.specs.declared.CentsPerMwDay.{CentsPerMwDay}
 use Rattle.curve.specs.declared.Curve.{Curve}
-use Rattle.curve.specs.declared.CurvePrice.{CurvePrice}
+use Rattle.curve.specs.declared.exact.ExactCurvePrice.{ExactCurvePrice}
 use Rattle.curve.specs.declared.Terms.{Terms}
 use Rattle.curve.specs.declared.Weights.{Weights}
 use Rattle.curve.proofs.points.Reads as points
 use Rattle.curve.proofs.points_2026.Reads as points-2026
 use Rattle.curve.proofs.tenth_price.Reads as tenth-price
-use Rattle.curve.proofs.price_at.Reads as price-at
+use Rattle.curve.proofs.exact.price_at.Reads as price-at
 
 -- the points, by the contract of `points`
 pub points-decided : (w : Weights) (whole : ℕ) (t : Terms) (r s : Curve)
@@ -29,6 +29,6 @@ pub tenth-price-decided : (c : Curve) (k : ℕ) (r s : CentsPerMwDay)
 tenth-price-decided c k r s e f = λ i. record { 0 = (e .0 ∙ sym (f .0)) i }
 
 -- the price, or that there is none, by the contract of `price_at`
-pub curve-price-decided : (c : Curve) (k : ℕ) (r s : CurvePrice)
+pub curve-price-decided : (c : Curve) (k : ℕ) (r s : ExactCurvePrice)
     → price-at.Post tt (c, (k, tt)) r (c, (k, tt)) → price-at.Post tt (c, (k, tt)) s (c, (k, tt)) → r ≡ s
 curve-price-decided c k r s e f = e ∙ sym f

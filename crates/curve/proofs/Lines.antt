@@ -13,7 +13,7 @@ use Rattle.laws.proofs.Quotients.{div-mono}
 use Rattle.curve.specs.Price.{line}
 
 -- of two points the later has no more to divide
-dividend-falls : (pa pb qa qb j k : ℕ) → pb ≤ pa → qa ≤ j → j ≤ k → k ≤ qb
+pub dividend-falls : (pa pb qa qb j k : ℕ) → pb ≤ pa → qa ≤ j → j ≤ k → k ≤ qb
     → pa * (qb - k) + pb * (k - qa) ≤ pa * (qb - j) + pb * (j - qa)
 dividend-falls pa pb qa qb j k f a l u =
     let before : qb - j ≡ (qb - k) + (k - j) = omega arith in

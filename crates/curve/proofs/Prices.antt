@@ -1,9 +1,9 @@
 -- Laws of the curve price.
 --
--- In order: the price and the answer on each part of a curve; of any curve whose points go right and never up, the price
--- at Q2 and Q3, that the price never rises, and the highest price.
+-- In order: the price on each part of a curve, and that there is none past it; of any curve whose points go right and never
+-- up, the price at Q2 and Q3, that the price never rises, and the highest price.
 -- Assumes nothing.
-use mathlib.Core.Path.{_≡_, sym, ap, _∙_}
+use mathlib.Core.Path.{_≡_, sym, _∙_}
 use Prim.Native.Nat.{ℕ, _≤_, _<_}
 use native.Mathlib.Nat.{le-refl, le-trans, le-antisymm}
 use native.Mathlib.Omega.{arith}
@@ -11,9 +11,8 @@ use borrow.Author.Tests.{le-leb, lt-leb}
 use Rattle.laws.proofs.Cases.{by-order, cond-true, cond-false}
 use Rattle.laws.proofs.Pieces.{FallsFrom, falls-joined}
 use Rattle.auction.specs.Offers.{Falling}
-use Rattle.units.specs.declared.CentsPerMwDay.{CentsPerMwDay}
 use Rattle.curve.specs.declared.Curve.{Curve}
-use Rattle.curve.specs.declared.CurvePrice.the-variants.{Price, NoPrice}
+use Rattle.curve.specs.declared.CurvePrice.the-variants.{NoPrice}
 use Rattle.curve.specs.Price.{line, tenthPrice, curvePrice, demandOf}
 use Rattle.curve.specs.Shape.{Shaped}
 use Rattle.curve.proofs.Lines.{line-falls, line-start, line-end, line-past}
@@ -23,13 +22,7 @@ pub price-level : (c : Curve) (k : ℕ) → k ≤ c .q1 → tenthPrice c k ≡ c
 unfolding tenthPrice
 price-level c k h = cond-true _ _ _ (le-leb k (c .q1) h)
 
--- up to Q3 the curve answers with that price
-pub price-within : (c : Curve) (k : ℕ) (p : CentsPerMwDay) → k ≤ c .q3 → p .0 ≡ tenthPrice c k → Price p ≡ curvePrice c k
-unfolding curvePrice
-price-within c k p h e =
-    ap (λ (x : ℕ). Price (record { 0 = x })) e ∙ sym (cond-true _ _ _ (le-leb k (c .q3) h))
-
--- past Q3 it says that it has none
+-- past Q3 the curve says that it has none
 pub no-price-past : (c : Curve) (k : ℕ) → c .q3 < k → curvePrice c k ≡ NoPrice
 unfolding curvePrice
 no-price-past c k h = cond-false _ _ _ (lt-leb k (c .q3) h)

@@ -1,4 +1,5 @@
 pub mod Points
 pub mod Shape
 pub mod Price
+pub mod Exact
 pub mod inner

@@ -1,4 +1,7 @@
 // The Variable Resource Requirement curve: its three points and its price at a quantity.
+pub mod exact;
+
+use crate::exact::exact_price;
 use units::CentsPerMwDay;
 use units::DollarsPerMwYear;
 ghost use mathlib.Core.Path.{_≡_};
@@ -8,7 +11,7 @@ ghost use Rattle.curve.specs.Points.{netCost, firstPrice, curveOf};
 ghost use Rattle.curve.specs.inner.Points.{InRange};
 ghost use Rattle.curve.specs.Shape.{Shaped, curve2026};
 ghost use Rattle.curve.specs.inner.Shape.{Usable};
-ghost use Rattle.curve.specs.Price.{line, tenthPrice, curvePrice};
+ghost use Rattle.curve.specs.Price.{tenthPrice};
 
 // What the region's curve is made from, every value given and in range.
 pub struct Terms {
@@ -53,7 +56,7 @@ pub struct Curve {
     pub q3: u32,
 }
 
-// What a curve says of a quantity.
+// What a curve says of a quantity, in whole cents. `exact::price_at` says it between cents.
 pub enum CurvePrice {
     Price(CentsPerMwDay),
     // Past Q3 nothing is bought.
@@ -117,41 +120,11 @@ pub fn points_2026(t: Terms) -> Curve
     points(Weights::Y2026, WHOLE, t)
 }
 
-// The price on the line from (qa, pa) to (qb, pb) at k, rounded down.
-fn between(pa: u32, pb: u32, qa: u32, qb: u32, k: u32) -> u32
-    requires { ⌜ (pb ≤ pa) × (qa < k) × (k ≤ qb) ⌝ }
-    ensures { λ r. ⌜ r ≡ line pa pb qa qb k ⌝ }
-{
-    let before = pa as u64 * (qb - k) as u64;
-    let after = pb as u64 * (k - qa) as u64;
-    let cents = (before + after) / (qb - qa) as u64;
-    cents as u32
-}
-
-// The price at a quantity up to Q3.
+// The price at a quantity up to Q3, in whole cents.
 pub fn tenth_price(c: Curve, k: u32) -> CentsPerMwDay
     requires { ⌜ Shaped c × (k ≤ c .q3) ⌝ }
     ensures { λ r. ⌜ (r .0 ≡ tenthPrice c k) × (r .0 ≤ c .p1 .0) ⌝ }
 {
-    let p1 = c.p1;
-    let p2 = c.p2;
-    if k <= c.q1 {
-        return p1;
-    }
-    if k <= c.q2 {
-        return CentsPerMwDay(between(p1.0, p2.0, c.q1, c.q2, k));
-    }
-    CentsPerMwDay(between(p2.0, 0, c.q2, c.q3, k))
-}
-
-// The price at a quantity, or that there is none.
-pub fn price_at(c: Curve, k: u32) -> CurvePrice
-    requires { ⌜ Shaped c ⌝ }
-    ensures { λ r. ⌜ r ≡ curvePrice c k ⌝ }
-{
-    if k <= c.q3 {
-        CurvePrice::Price(tenth_price(c, k))
-    } else {
-        CurvePrice::NoPrice
-    }
+    let exact = exact_price(c, k);
+    exact.cents
 }

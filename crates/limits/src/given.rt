@@ -4,28 +4,38 @@ use values::Value;
 use values::Verdict;
 use values::head::Parameters;
 ghost use mathlib.Core.Path.{_≡_};
-ghost use Rattle.values.specs.Refusals.{andThen};
-ghost use Rattle.limits.specs.Parameters.{fieldFault};
+ghost use Rattle.limits.specs.Parameters.{missingFault};
 ghost use Rattle.limits.specs.Given.{parametersFault};
 
-// 4 at a field whose value is missing, and else what comes next.
-fn needed(field: u32, v: Value, next: Verdict) -> Verdict
-    ensures { λ r. ⌜ r ≡ andThen (fieldFault field v) next ⌝ }
+// 4: the first field whose value is missing.
+fn missing_value(p: Parameters) -> Verdict
+    ensures { λ r. ⌜ r ≡ missingFault p ⌝ }
 {
-    match v {
-        Value::Given(_) => next,
-        Value::Missing => Verdict::Refused(4, field),
+    let cost = p.cost;
+    if let Value::Missing = cost {
+        return Verdict::Refused(4, 2);
     }
+    let offset = p.offset;
+    if let Value::Missing = offset {
+        return Verdict::Refused(4, 3);
+    }
+    let outage = p.outage;
+    if let Value::Missing = outage {
+        return Verdict::Refused(4, 4);
+    }
+    let requirement = p.requirement;
+    if let Value::Missing = requirement {
+        return Verdict::Refused(4, 5);
+    }
+    Verdict::Passed
 }
 
 // 4, and then 5 by field.
 pub fn parameters_verdict(p: Parameters) -> Verdict
     ensures { λ r. ⌜ r ≡ parametersFault p ⌝ }
 {
-    let cost = p.cost;
-    let offset = p.offset;
-    let outage = p.outage;
-    let requirement = p.requirement;
-    let last = needed(5, requirement, parameter_fault(p));
-    needed(2, cost, needed(3, offset, needed(4, outage, last)))
+    if let Verdict::Refused(number, place) = missing_value(p) {
+        return Verdict::Refused(number, place);
+    }
+    parameter_fault(p)
 }

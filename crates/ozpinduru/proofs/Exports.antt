@@ -17,9 +17,9 @@ use Rattle.limits.specs.Parameters.{missingFault}
 use Rattle.limits.specs.Given.{parametersFault}
 use Rattle.limits.specs.Ranges.{Ranged}
 use Rattle.limits.proofs.Passing.{parameters-ranged}
-use Rattle.curve.specs.Price.{curvePrice}
+use Rattle.curve.specs.Exact.{exactCurvePrice}
 use Rattle.curve.specs.declared.Curve.{Curve}
-use Rattle.curve.specs.declared.CurvePrice.{CurvePrice}
+use Rattle.curve.specs.declared.exact.ExactCurvePrice.{ExactCurvePrice}
 use Rattle.layout.specs.Read.{contentsOf}
 use Rattle.layout.proofs.Passing.{form-passed-length}
 use Rattle.layout.proofs.Contained.{contents-count}
@@ -95,9 +95,9 @@ module _ (given p : Parameters) (same : p ≡ given) (v : Verdict) (found : v �
     unfolding exportedCurve
     curve-made = rw (fault passed) (ap pointsOf curve-given)
 
-    pub price-made : (k : ℕ) (q : CurvePrice) → q ≡ curvePrice c k → plottedPrice q ≡ exportedPrice given k
+    pub price-made : (k : ℕ) (q : ExactCurvePrice) → q ≡ exactCurvePrice c k → plottedPrice q ≡ exportedPrice given k
     unfolding exportedPrice
-    price-made k q e = rw (fault passed) (ap plottedPrice (e ∙ ap (λ (m : Curve). curvePrice m k) curve-given))
+    price-made k q e = rw (fault passed) (ap plottedPrice (e ∙ ap (λ (m : Curve). exactCurvePrice m k) curve-given))
 
 -- ---- make-whole
 

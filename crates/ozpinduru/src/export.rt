@@ -2,7 +2,7 @@
 use calendar::days_of;
 use call::clear;
 use call::quote;
-use curve::price_at;
+use curve::exact::price_at;
 use limits::given::parameters_verdict;
 use market::price::ClearingPrice;
 use plain::answers;
@@ -56,7 +56,7 @@ pub extern "C" fn ozp_curve(parameters: OzpParameters) -> OzpCurve
     plotted::curve(region_curve(p))
 }
 
-// The price at a quantity of the curve that parameters make.
+// The price at a quantity of the curve that parameters make, between cents.
 #[no_mangle]
 pub extern "C" fn ozp_price_at(parameters: OzpParameters, k: u32) -> OzpPrice
     ensures { λ r. ⌜ r ≡ exportedPrice (parametersIn parameters) k ⌝ }

@@ -8,7 +8,7 @@ use contract.Lifetimes.{Lfts}
 use denote.Ref.{RefT, now}
 use Rattle.values.specs.declared.head.Parameters.{Parameters}
 use Rattle.curve.specs.declared.Curve.{Curve}
-use Rattle.curve.specs.declared.CurvePrice.{CurvePrice}
+use Rattle.curve.specs.declared.exact.ExactCurvePrice.{ExactCurvePrice}
 use Rattle.call.specs.declared.Answer.{Answer}
 use Rattle.plain.specs.Listed.{exportedContents, rowOut}
 use Rattle.plain.specs.inner.Answers.{rowsStated}
@@ -77,7 +77,7 @@ pub curve-refused-decided : (number place : ℕ) (r s : OzpCurve)
 curve-refused-decided number place r s e f = e ∙ sym f
 
 -- the price of a curve at a quantity, by the contract of `price`, and of refused parameters
-pub plotted-price-decided : (p : CurvePrice) (r s : OzpPrice) → price.Post tt (p, tt) r (p, tt) → price.Post tt (p, tt) s (p, tt) → r ≡ s
+pub plotted-price-decided : (p : ExactCurvePrice) (r s : OzpPrice) → price.Post tt (p, tt) r (p, tt) → price.Post tt (p, tt) s (p, tt) → r ≡ s
 plotted-price-decided p r s e f = e ∙ sym f
 
 pub price-refused-decided : (number place : ℕ) (r s : OzpPrice)

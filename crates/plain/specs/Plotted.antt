@@ -7,10 +7,11 @@ use Rattle.values.specs.declared.Verdict.{Verdict}
 use Rattle.values.specs.declared.Verdict.the-variants.{Passed, Refused}
 use Rattle.values.specs.declared.head.Parameters.{Parameters}
 use Rattle.limits.specs.Given.{parametersFault}
-use Rattle.curve.specs.Price.{curvePrice}
+use Rattle.curve.specs.Exact.{exactCurvePrice}
 use Rattle.curve.specs.declared.Curve.{Curve}
-use Rattle.curve.specs.declared.CurvePrice.{CurvePrice}
-use Rattle.curve.specs.declared.CurvePrice.the-variants.{Price, NoPrice}
+use Rattle.curve.specs.declared.exact.ExactPrice.{ExactPrice}
+use Rattle.curve.specs.declared.exact.ExactCurvePrice.{ExactCurvePrice}
+use Rattle.curve.specs.declared.exact.ExactCurvePrice.the-variants.{Price, NoPrice}
 use Rattle.region.specs.Region.{regionCurve}
 use Rattle.plain.specs.Answers.{noValue}
 use Rattle.plain.specs.declared.structs.OzpCurve.{OzpCurve}
@@ -55,12 +56,30 @@ exportedCurve p = pointsBy (parametersFault p) (pointsOf (regionCurve p))
 
 -- ---- its price at a quantity
 
-abbrev pub plottedPrice : CurvePrice → OzpPrice
-plottedPrice (Price cents) = record { kind = 1; price = cents .0; number = noValue; place = noValue }
-plottedPrice NoPrice = record { kind = 2; price = noValue; number = noValue; place = noValue }
+-- a price: whole cents with a remainder and its divisor
+abbrev pub priceGiven : ExactPrice → OzpPrice
+priceGiven e =
+    record {
+      kind = 1;
+      cents = e .cents .0;
+      remainder = e .remainder;
+      divisor = e .divisor;
+      number = noValue;
+      place = noValue;
+    }
+
+-- an answer of another kind has none of the three
+abbrev pub withoutPrice : ℕ → ℕ → ℕ → OzpPrice
+withoutPrice kind number place =
+    record { kind = kind; cents = noValue; remainder = noValue; divisor = noValue; number = number; place = place }
+
+-- what a curve says of a quantity, or the refusal of its parameters
+abbrev pub plottedPrice : ExactCurvePrice → OzpPrice
+plottedPrice (Price e) = priceGiven e
+plottedPrice NoPrice = withoutPrice 2 noValue noValue
 
 abbrev pub priceRefused : ℕ → ℕ → OzpPrice
-priceRefused number place = record { kind = 3; price = noValue; number = number; place = place }
+priceRefused number place = withoutPrice 3 number place
 
 abbrev pub priceBy : Verdict → OzpPrice → OzpPrice
 priceBy Passed price = price
@@ -68,4 +87,4 @@ priceBy (Refused number place) price = priceRefused number place
 
 -- the price at k on the curve that parameters make, that there is none past Q3, or the refusal of the parameters
 unfoldable pub exportedPrice : Parameters → ℕ → OzpPrice
-exportedPrice p k = priceBy (parametersFault p) (plottedPrice (curvePrice (regionCurve p) k))
+exportedPrice p k = priceBy (parametersFault p) (plottedPrice (exactCurvePrice (regionCurve p) k))

@@ -3,9 +3,10 @@ use crate::structs::NO_VALUE;
 use crate::structs::OzpCurve;
 use crate::structs::OzpPrice;
 use curve::Curve;
-use curve::CurvePrice;
+use curve::exact::ExactCurvePrice;
+use curve::exact::ExactPrice;
 ghost use mathlib.Core.Path.{_≡_};
-ghost use Rattle.plain.specs.Plotted.{pointsOf, pointsRefused, plottedPrice, priceRefused};
+ghost use Rattle.plain.specs.Plotted.{pointsOf, pointsRefused, priceGiven, plottedPrice, priceRefused};
 
 // The three points of a curve. The last stands at price 0.
 pub fn curve(c: Curve) -> OzpCurve
@@ -43,20 +44,32 @@ pub fn curve_refused(number: u32, place: u32) -> OzpCurve
     }
 }
 
+// A price between cents.
+fn price_given(e: ExactPrice) -> OzpPrice
+    ensures { λ r. ⌜ r ≡ priceGiven e ⌝ }
+{
+    let cents = e.cents;
+    OzpPrice {
+        kind: 1,
+        cents: cents.0,
+        remainder: e.remainder,
+        divisor: e.divisor,
+        number: NO_VALUE,
+        place: NO_VALUE,
+    }
+}
+
 // The price of a curve at a quantity, or that there is none.
-pub fn price(p: CurvePrice) -> OzpPrice
+pub fn price(p: ExactCurvePrice) -> OzpPrice
     ensures { λ r. ⌜ r ≡ plottedPrice p ⌝ }
 {
     match p {
-        CurvePrice::Price(cents) => OzpPrice {
-            kind: 1,
-            price: cents.0,
-            number: NO_VALUE,
-            place: NO_VALUE,
-        },
-        CurvePrice::NoPrice => OzpPrice {
+        ExactCurvePrice::Price(e) => price_given(e),
+        ExactCurvePrice::NoPrice => OzpPrice {
             kind: 2,
-            price: NO_VALUE,
+            cents: NO_VALUE,
+            remainder: NO_VALUE,
+            divisor: NO_VALUE,
             number: NO_VALUE,
             place: NO_VALUE,
         },
@@ -69,7 +82,9 @@ pub fn price_refused(number: u32, place: u32) -> OzpPrice
 {
     OzpPrice {
         kind: 3,
-        price: NO_VALUE,
+        cents: NO_VALUE,
+        remainder: NO_VALUE,
+        divisor: NO_VALUE,
         number,
         place,
     }

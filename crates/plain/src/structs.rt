@@ -54,11 +54,13 @@ pub struct OzpCurve {
     pub place: u32,
 }
 
-// The price of a curve at a quantity.
+// The price of a curve at a quantity: whole cents, and remainder / divisor of a cent.
 #[repr(C)]
 pub struct OzpPrice {
     pub kind: u32,
-    pub price: u32,
+    pub cents: u32,
+    pub remainder: u32,
+    pub divisor: u32,
     pub number: u32,
     pub place: u32,
 }

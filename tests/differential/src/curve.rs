@@ -3,7 +3,7 @@
 use crate::compare::same;
 use oracle::book::{Book, Fault, Parameters};
 use oracle::random::Rng;
-use oracle::{limits, make, price_at, Point};
+use oracle::{exact_price_at, limits, make, ExactPrice, Point};
 use ozpinduru::raw::{self, CurvePoints, CurvePrice, Value, NO_VALUE};
 
 /// Compares the curve of a book's parameters, or of those of the reference book, half of the time with values changed; says of
@@ -17,11 +17,12 @@ pub fn curve(read: &Result<Book, Fault>, rng: &mut Rng) -> Result<Vec<&'static s
     let [cost, offset, outage, requirement] = lent.map(taken);
     let p = Parameters { year: p.year, cost, offset, outage, requirement };
     let odd = lent.iter().any(|value| ![raw::GIVEN, raw::MISSING].contains(&value.kind)).then_some("value of another kind");
-    let kind = match limits::missing(&p).or_else(|| limits::out_of_range(&p)) {
+    let mut kinds = match limits::missing(&p).or_else(|| limits::out_of_range(&p)) {
         None => drawn(asked, &p.curve(), rng)?,
-        Some(fault) => refused(asked, fault, rng)?,
+        Some(fault) => vec![refused(asked, fault, rng)?],
     };
-    Ok([Some(kind), odd].into_iter().flatten().collect())
+    kinds.extend(odd);
+    Ok(kinds)
 }
 
 /// A value on its way in. One that is missing has any number.
@@ -43,19 +44,40 @@ fn taken(value: Value) -> Option<u32> {
     }
 }
 
-fn drawn(asked: raw::Parameters, points: &[Point; 3], rng: &mut Rng) -> Result<&'static str, String> {
+/// The points, and the price at every corner, between them, and anywhere.
+fn drawn(asked: raw::Parameters, points: &[Point; 3], rng: &mut Rng) -> Result<Vec<&'static str>, String> {
     let ([q1, q2, q3], [p1, p2, p3]) = (points.map(|point| point.quantity), points.map(|point| point.price));
     let due = CurvePoints { kind: raw::GIVEN, p1, p2, p3, q1, q2, q3, number: NO_VALUE, place: NO_VALUE };
     // SAFETY: the calls take numbers alone.
     same("the curve", unsafe { raw::ozp_curve(asked) }, due)?;
     let (first, second, any) = (rng.between32(q1, q2), rng.between32(q2, q3), rng.draw() as u32);
+    let mut kinds = vec!["curve drawn"];
+    kinds.extend((p2 == 0).then_some("second point at price 0"));
+    kinds.extend((p1 == p2).then_some("first two points at one price"));
     for k in [0, q1, q1 + 1, first, q2, q2 + 1, second, q3, q3 + 1, any] {
-        let (kind, price) = price_at(points, k).map_or((raw::NONE, NO_VALUE), |price| (raw::GIVEN, price));
-        let due = CurvePrice { kind, price, number: NO_VALUE, place: NO_VALUE };
+        let price = exact_price_at(points, k);
         // SAFETY: as above.
-        same(&format!("the price at {k}"), unsafe { raw::ozp_price_at(asked, k) }, due)?;
+        same(&format!("the price at {k}"), unsafe { raw::ozp_price_at(asked, k) }, priced(price))?;
+        kinds.push(stretch([q1, q2, q3], k));
+        kinds.extend(price.filter(|price| price.remainder > 0).map(|_| "remainder over 0"));
     }
-    Ok("curve drawn")
+    Ok(kinds)
+}
+
+fn priced(price: Option<ExactPrice>) -> CurvePrice {
+    let no = NO_VALUE;
+    match price {
+        None => CurvePrice { kind: raw::NONE, cents: no, remainder: no, divisor: no, number: no, place: no },
+        Some(ExactPrice { cents, remainder, divisor }) => {
+            CurvePrice { kind: raw::GIVEN, cents, remainder, divisor, number: no, place: no }
+        }
+    }
+}
+
+/// The part of a curve that a quantity lies on.
+fn stretch(quantities: [u32; 3], k: u32) -> &'static str {
+    let stretches = ["price level", "on the first line", "on the second line"];
+    quantities.iter().position(|end| k <= *end).map_or("past the last point", |at| stretches[at])
 }
 
 fn refused(asked: raw::Parameters, (number, place): Fault, rng: &mut Rng) -> Result<&'static str, String> {
@@ -64,6 +86,7 @@ fn refused(asked: raw::Parameters, (number, place): Fault, rng: &mut Rng) -> Res
     // SAFETY: the calls take numbers alone.
     same("the curve", unsafe { raw::ozp_curve(asked) }, due)?;
     let price = unsafe { raw::ozp_price_at(asked, rng.draw() as u32) };
-    same("a price", price, CurvePrice { kind: raw::REFUSED, price: no, number, place })?;
+    let due = CurvePrice { kind: raw::REFUSED, cents: no, remainder: no, divisor: no, number, place };
+    same("a price", price, due)?;
     Ok(if number == 4 { "curve refused by 4" } else { "curve refused by 5" })
 }

@@ -11,7 +11,7 @@ use std::collections::BTreeMap;
 const ENOUGH: u64 = 1_000;
 
 /// The kinds, as they are printed. A call is of one kind of the first line, of one of the second, and of any of the others.
-const KINDS: [&[&str]; 10] = [
+const KINDS: [&[&str]; 11] = [
     &["valid", "faulty", "damaged", "stray"],
     &["not laid out", "no offers", "1 to 15 offers", "16 to 599", "600"],
     &["refused by 1", "by 2", "by 3", "by 4", "by 5", "by 6", "by 7", "by 8", "by 9"],
@@ -19,6 +19,15 @@ const KINDS: [&[&str]; 10] = [
     &["no price", "price 0", "make-whole", "spares by remainder", "by stamp", "by resource"],
     &["read", "not read", "array too short", "report written", "room too small"],
     &["curve drawn", "curve refused by 4", "curve refused by 5", "value of another kind"],
+    &[
+        "price level",
+        "on the first line",
+        "on the second line",
+        "past the last point",
+        "remainder over 0",
+        "second point at price 0",
+        "first two points at one price",
+    ],
     &["year of 365 days", "year of 366 days", "short before a century", "long before a century"],
     &["losers don't matter", "losers added", "losers taken out", "losers changed", "shared rows moved", "600 beside"],
     &[

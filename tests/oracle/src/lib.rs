@@ -4,7 +4,7 @@
 //! - `sound`: the first fault of a book whose missing values are no fault.
 //! - `printed`: what the program `clear` prints for a book.
 //! - `row`: what the reader hands back for a row.
-//! - `curve`, `price_at`: the requirement curve.
+//! - `curve`, `price_at`, `exact_price_at`: the requirement curve, and its price in whole cents and between them.
 //! - `comparison::compare`: whether losers matter between two books.
 //!
 //! The rest by module: `book` reads and checks bytes, `limits` holds the ranges, `calendar` the days of delivery years, `clearing` is the auction as a function of a
@@ -18,11 +18,13 @@ pub mod calendar;
 pub mod clearing;
 pub mod comparison;
 pub mod curve;
+pub mod exact;
 pub mod limits;
 pub mod make;
 pub mod random;
 
 pub use curve::{curve, price_at, Point};
+pub use exact::{exact_price_at, ExactPrice};
 
 use clearing::Priced;
 

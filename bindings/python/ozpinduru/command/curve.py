@@ -1,13 +1,14 @@
 """The three points of the requirement curve, of a book's parameters or of those given, and its price at a quantity.
 
-With --json: p1, p2, p3 (cents per MW-day), q1, q2, q3 (tenths of a megawatt) and, with --at, at and price_at (null past the
-last point); refused parameters have "refused": number, place, where and when.
+With --json: p1, p2, p3 (cents per MW-day), q1, q2, q3 (tenths of a megawatt) and, with --at, at and price_at: its cents and the
+remainder and divisor of what lies between cents (null past the last point); refused parameters have "refused": number, place,
+where and when.
 """
 import argparse
 from dataclasses import asdict, fields
 from typing import Optional
 
-from .. import Parameters, curve, price_at, read
+from .. import ExactPrice, Parameters, curve, price_at, read
 from ._books import Answer, answered, as_json, each
 from ._streams import complain
 from ._units import dollars, megawatts
@@ -37,14 +38,21 @@ def quantity(text: str) -> int:
     return k
 
 
+def _exactly(price: Optional[ExactPrice]) -> str:
+    """A price and what lies between its cents."""
+    if price is None:
+        return "past the last point, where nothing is bought"
+    return dollars(price.cents) + (f" and {price.remainder}/{price.divisor} of a cent" if price.remainder else "")
+
+
 def _answer(parameters: Parameters, at: Optional[int]) -> Answer:
     c = curve(parameters)
     points = [(c.q1, c.p1), (c.q2, c.p2), (c.q3, c.p3)]
     text, values = "; ".join(f"{megawatts(q)} at {dollars(p)}" for q, p in points), asdict(c)
     if at is not None:
         price = price_at(parameters, at)
-        asked = "past the last point, where nothing is bought" if price is None else dollars(price)
-        text, values = f"{text}; at {megawatts(at)}: {asked}", {**values, "at": at, "price_at": price}
+        text = f"{text}; at {megawatts(at)}: {_exactly(price)}"
+        values = {**values, "at": at, "price_at": None if price is None else asdict(price)}
     return text, values
 
 

@@ -1,43 +1,24 @@
--- `curve::tenth_price` meets its contract: each test picks the part of the curve that it returns from.
+-- `curve::tenth_price` meets its contract: the cents of the exact price are the curve price, and no price is over P1.
 -- Assumes nothing.
-use mathlib.Core.Path.{_≡_, sym, _∙_}
-use Prim.Native.Nat.{ℕ, _≤_}
+use mathlib.Core.Path.{_≡_, ap, _∙_}
 use native.Mathlib.Omega.{arith}
 use borrow.Author.Needs.{needs}
-use Rattle.curve.specs.Shape.{Shaped}
+use Rattle.curve.specs.declared.exact.ExactPrice.{ExactPrice}
 use Rattle.curve.specs.Price.{tenthPrice}
-use Rattle.curve.specs.declared.Curve.{Curve}
-use Rattle.curve.proofs.Prices.{price-level, price-first, price-second, price-most}
+use Rattle.curve.proofs.Prices.{price-most}
+use Rattle.curve.proofs.Exacts.{exact-cents}
 use Rattle.curve.proofs.tenth_price.Statement.{statement}
 use Rattle.curve.proofs.tenth_price.Tie as tie
 
--- a number that is the curve price is no higher than P1
-priced : (c : Curve) (k p : ℕ) → Shaped c → p ≡ tenthPrice c k → (p ≡ tenthPrice c k) × (p ≤ c .p1 .0)
-priced c k p s e = (e, omega (arith, price-most c s k))
+exact-price-requires : tie.Need-exact-price-requires
+exact-price-requires c κs = search needs
 
 returns : tie.Need-returns
 returns c =
-    let b = c .before .before .before .before in
-    priced (b .args .c) (b .args .k) _ (b .pre .0) (sym (price-level (b .args .c) (b .args .k) (c .if1 .taken)))
-
-between-requires : tie.Need-between-requires
-between-requires c κs = search needs
-
-returns-2 : tie.Need-returns-2
-returns-2 c =
-    let b = c .before .before .before .before .before .before .before in
-    priced (b .args .c) (b .args .k) _ (b .pre .0)
-    (c .between .ensures ∙ sym (price-first (b .args .c) (b .args .k) (omega arith) (omega arith)))
-
-between-requires-2 : tie.Need-between-requires-2
-between-requires-2 c κs = search needs
-
-returns-3 : tie.Need-returns-3
-returns-3 c =
-    let b = c .before .before .before .before .before .before .before in
-    priced (b .args .c) (b .args .k) _ (b .pre .0)
-    (c .between2 .ensures ∙ sym (price-second (b .args .c) (b .pre .0) (b .args .k) (omega arith)))
+    let a = c .before .before .args in
+    let cents : c .before .exact-price .result .cents .0 ≡ tenthPrice (a .c) (a .k) =
+    ap (λ (e : ExactPrice). e .cents .0) (c .before .exact-price .ensures) ∙ exact-cents (a .c) (a .k) in
+    (cents, omega (arith, price-most (a .c) (c .before .before .pre .0) (a .k)))
 
 pub tenth-price-spec : {M : Type 1} → statement M
-tenth-price-spec =
-    tie.close (tie.spec returns between-requires returns-2 between-requires-2 returns-3)
+tenth-price-spec = tie.close (tie.spec exact-price-requires returns)

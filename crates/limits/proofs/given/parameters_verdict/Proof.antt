@@ -1,53 +1,53 @@
--- `parameters_verdict` asks for each value in turn, and then for the ranges.
+-- `parameters_verdict` looks for what is missing, and then, where nothing is, for the ranges.
 -- Assumes nothing.
-use mathlib.Core.Path.{_≡_, refl}
+use mathlib.Core.Path.{_≡_, sym, _∙_}
+use Prim.Native.Nat.{ℕ}
 use borrow.Author.Needs.{needs}
-use Rattle.values.specs.Refusals.{andThen}
-use Rattle.values.specs.declared.Verdict.{Verdict}
 use Rattle.values.specs.declared.Verdict.the-variants.{Passed, Refused}
 use Rattle.values.specs.declared.head.Parameters.{Parameters}
-use Rattle.limits.specs.Parameters.{fieldFault, missingFault, rangeFault}
+use Rattle.values.proofs.Firsts.{andThen-refused, andThen-next}
+use Rattle.limits.specs.Parameters.{missingFault, rangeFault}
 use Rattle.limits.specs.Given.{parametersFault}
 use Rattle.limits.proofs.given.parameters_verdict.Statement.{statement}
 use Rattle.limits.proofs.given.parameters_verdict.Tie as tie
 
--- three tests in a row
-andThen-assoc : (u v w : Verdict) → andThen (andThen u v) w ≡ andThen u (andThen v w)
-andThen-assoc Passed v w = refl
-andThen-assoc (Refused number place) v w = refl
+-- a value that is missing is the fault, and where none is, the ranges decide
+missing-first : (p : Parameters) (number place : ℕ) → missingFault p ≡ Refused number place → Refused number place ≡ parametersFault p
+unfolding parametersFault
+missing-first p number place e = sym (andThen-refused (missingFault p) (rangeFault p) number place e)
 
--- the values one by one, and then the ranges
-in-turn : (p : Parameters)
-    → andThen (fieldFault 2 (p .cost)) (andThen (fieldFault 3 (p .offset)) (andThen (fieldFault 4 (p .outage)) (andThen (fieldFault 5 (p .requirement)) (rangeFault p))))
-    ≡ parametersFault p
-unfolding parametersFault missingFault
-in-turn p = simp andThen-assoc
+ranges-then : (p : Parameters) → missingFault p ≡ Passed → rangeFault p ≡ parametersFault p
+unfolding parametersFault
+ranges-then p e = sym (andThen-next (missingFault p) (rangeFault p) e)
+
+missing-value-requires : tie.Need-missing-value-requires
+missing-value-requires c κs = search needs
+
+enum-known-number : tie.Need-enum-known-number
+enum-known-number c = search needs
+
+returns : tie.Need-returns
+returns c =
+    missing-first _ _ _ (sym (c .before .before .before .missing-value .ensures) ∙ c .before .number .given .1)
+
+enum-told : tie.Need-enum-told
+enum-told c = search needs
 
 parameter-fault-requires : tie.Need-parameter-fault-requires
 parameter-fault-requires c κs = search needs
 
-needed-requires : tie.Need-needed-requires
-needed-requires c κs = search needs
-
-needed-requires-2 : tie.Need-needed-requires-2
-needed-requires-2 c κs = search needs
-
-needed-requires-3 : tie.Need-needed-requires-3
-needed-requires-3 c κs = search needs
-
-needed-requires-4 : tie.Need-needed-requires-4
-needed-requires-4 c κs = search needs
-
-returns : tie.Need-returns
-returns c = cc (in-turn (c .before .before .before .before .before .args .p))
+returns-2 : tie.Need-returns-2
+returns-2 c =
+    c .parameter-fault .ensures
+    ∙ ranges-then _ (sym (c .before .before .before .missing-value .ensures) ∙ c .before .enum-told .given .1)
 
 pub parameters-verdict-spec : {M : Type 1} → statement M
 parameters-verdict-spec =
     tie.close
     (tie.spec
+    missing-value-requires
+    enum-known-number
+    returns
+    enum-told
     parameter-fault-requires
-    needed-requires
-    needed-requires-2
-    needed-requires-3
-    needed-requires-4
-    returns)
+    returns-2)

@@ -7,6 +7,9 @@ use Rattle.plain.proofs.plotted.price.Tie as tie
 enum-known-p : tie.Need-enum-known-p
 enum-known-p c = search needs
 
+price-given-requires : tie.Need-price-given-requires
+price-given-requires c κs = search needs
+
 enum-told : tie.Need-enum-told
 enum-told c = search needs
 
@@ -17,4 +20,4 @@ returns-2 : tie.Need-returns-2
 returns-2 c = cc
 
 pub price-spec : {M : Type 1} → statement M
-price-spec = tie.close (tie.spec enum-known-p enum-told returns returns-2)
+price-spec = tie.close (tie.spec enum-known-p price-given-requires enum-told returns returns-2)

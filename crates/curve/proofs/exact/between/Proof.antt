@@ -1,5 +1,5 @@
--- `curve::between` meets its contract. What is divided is at most the first price times the distance, which fits 64 bits,
--- and the quotient at most the first price.
+-- `curve::exact::between` meets its contract. What is divided is at most the first price times the distance, which fits 64 bits;
+-- the quotient is at most the first price, and the remainder under the distance.
 -- Assumes nothing.
 use Prim.Native.Nat.{_+_, _-_, _*_, _≤_}
 use mathlib.Core.Path.{refl}
@@ -7,16 +7,18 @@ use native.Mathlib.Nat.{le-trans, mul-le-mul}
 use native.Mathlib.Omega.{arith}
 use borrow.Author.Needs.{needs}
 use Rattle.curve.specs.Price.{line}
+use Rattle.curve.specs.Exact.{exactLine}
 use Rattle.curve.proofs.Lines.{dividend-most, line-most}
-use Rattle.curve.proofs.between.Statement.{statement}
-use Rattle.curve.proofs.between.Tie as tie
+use Rattle.curve.proofs.Exacts.{line-remainder}
+use Rattle.curve.proofs.exact.between.Statement.{statement}
+use Rattle.curve.proofs.exact.between.Tie as tie
 
 -- what is divided fits 64 bits
 dividend-fits : (c : tie.Start)
     → c .args .pa * (c .args .qb - c .args .k) + c .args .pb * (c .args .k - c .args .qa) ≤ 4294967295 * 4294967295
 dividend-fits c =
     let a = c .args in
-    le-trans (dividend-most (a .pa) (a .pb) (a .qa) (a .qb) (a .k) (c .pre .0) (search needs) (c .pre .2))
+    le-trans (dividend-most (a .pa) (a .pb) (a .qa) (a .qb) (a .k) (c .pre .0) (c .pre .2) (c .pre .3))
     (mul-le-mul {n₂ = 4294967295} {m₂ = 4294967295} (omega arith) (omega arith))
 
 sub-before : tie.Need-sub-before
@@ -37,11 +39,11 @@ cast-after c = search needs
 mul-after : tie.Need-mul-after
 mul-after c = omega (arith, dividend-fits c)
 
-add-cents : tie.Need-add-cents
-add-cents c = omega (arith, dividend-fits c)
+add-numerator : tie.Need-add-numerator
+add-numerator c = omega (arith, dividend-fits c)
 
-sub-cents : tie.Need-sub-cents
-sub-cents c = search needs
+sub-width : tie.Need-sub-width
+sub-width c = search needs
 
 cast-cents : tie.Need-cast-cents
 cast-cents c = search needs
@@ -49,14 +51,26 @@ cast-cents c = search needs
 div-cents : tie.Need-div-cents
 div-cents c = search needs
 
-cast-result : tie.Need-cast-result
+cast-cents-2 : tie.Need-cast-cents-2
 unfolding line
-cast-result c =
+cast-cents-2 c =
     let a = c .args in
-    omega (arith, line-most (a .pa) (a .pb) (a .qa) (a .qb) (a .k) (c .pre .0) (search needs) (search needs) (c .pre .2))
+    omega (arith, line-most (a .pa) (a .pb) (a .qa) (a .qb) (a .k) (c .pre .0) (c .pre .1) (c .pre .2) (c .pre .3))
+
+cast-remainder : tie.Need-cast-remainder
+cast-remainder c = search needs
+
+rem-remainder : tie.Need-rem-remainder
+rem-remainder c = search needs
+
+cast-remainder-2 : tie.Need-cast-remainder-2
+unfolding exactLine
+cast-remainder-2 c =
+    let a = c .args in
+    omega (arith, line-remainder (a .pa) (a .pb) (a .qa) (a .qb) (a .k) (c .pre .1))
 
 returns : tie.Need-returns
-unfolding line
+unfolding line exactLine
 returns c = refl
 
 pub between-spec : {M : Type 1} → statement M
@@ -69,9 +83,12 @@ between-spec =
     sub-after
     cast-after
     mul-after
-    add-cents
-    sub-cents
+    add-numerator
+    sub-width
     cast-cents
     div-cents
-    cast-result
+    cast-cents-2
+    cast-remainder
+    rem-remainder
+    cast-remainder-2
     returns)
