@@ -8,9 +8,10 @@ from ._calendar import days
 from ._clearing import Clearing, Columns, Quote, Row, clear, clear_columns, quote
 from ._curve import Curve, curve, price_at
 from ._refusal import Fault, Refusal, report, version, words
+from .picture import chart
 
 __version__ = "0.2.0"
 __all__ = [
     "Book", "Clearing", "Columns", "Curve", "Fault", "Offer", "Parameters", "Quote", "Refusal", "Row",
-    "clear", "clear_columns", "curve", "days", "price_at", "quote", "read", "report", "version", "words",
+    "chart", "clear", "clear_columns", "curve", "days", "price_at", "quote", "read", "report", "version", "words",
 ]
