@@ -3,7 +3,7 @@ import re
 import unittest
 import xml.etree.ElementTree as xml
 
-from shared import reference, verdicts
+from shared import ROOT, reference, verdicts
 from compared import clearings, compare, stood
 from drawn import SVG, Panel, read_svg
 from ozpinduru import Refusal, chart, clear
@@ -93,6 +93,9 @@ class Stands(unittest.TestCase):
         coloured = [set(re.findall(r"\.ozp (\.\w+)\{\w+:#", part)) for part in (light, dark)]
         self.assertEqual(coloured[0], coloured[1])
         self.assertGreater(len(coloured[0]), 15)
+
+    def test_the_picture_of_the_documents(self):
+        self.assertEqual((ROOT / "docs" / "reference.svg").read_text(), chart(reference()), "draw it again with ozp chart")
 
     def test_refused(self):
         refused = 0

@@ -48,7 +48,8 @@ class Chart(unittest.TestCase):
 
     def test_standard_output(self):
         self.assertEqual(ozp("chart", REFERENCE, "-o", "-"), (0, chart(reference()), ""))
-        self.assertEqual(ozp("chart", UNPRICED, "-o", "-"), (1, "", f"ozp: {UNPRICED}: refused 6 at row 0: an offer has no price\n"))
+        refused = f"ozp: {UNPRICED}: refused 6 at row 0: an offer has no price\n"
+        self.assertEqual(ozp("chart", UNPRICED, "-o", "-"), (1, "", refused))
         self.holds()
 
     def test_json(self):

@@ -68,7 +68,7 @@ def number(value: float) -> str:
 
 
 def element(kind: str, *content: str, **attributes: Coordinate) -> str:
-    """An element. Its content is SVG already; a name such as `class_` loses its last underscore, and `text_anchor` has a hyphen."""
+    """An element. Its content is SVG already; of an attribute's name a last underscore goes, and another becomes a hyphen."""
     said = "".join(f' {name.rstrip("_").replace("_", "-")}="{escape(value) if isinstance(value, str) else number(value)}"'
                    for name, value in attributes.items())
     return f"<{kind}{said}>{''.join(content)}</{kind}>\n" if content else f"<{kind}{said}/>\n"
