@@ -7,8 +7,8 @@ import argparse
 from dataclasses import asdict
 
 from .. import quote
-from .._units import money, sold
 from ._books import Answer, arguments, each
+from .._units import money, sold
 
 __all__ = ["arguments", "run"]
 

@@ -8,9 +8,9 @@ from dataclasses import asdict, fields
 from typing import Optional
 
 from .. import Parameters, curve, price_at, read
-from .._units import dollars, megawatts
 from ._books import Answer, answered, as_json, each
 from ._streams import complain
+from .._units import dollars, megawatts
 
 _PARAMETERS = {
     "year": "delivery year: its first calendar year",

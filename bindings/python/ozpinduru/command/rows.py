@@ -6,8 +6,8 @@ and make_whole (mills a day).
 import argparse
 
 from .. import clear
-from .._units import megawatts, money, sold
 from ._books import Answer, arguments, each
+from .._units import megawatts, money, sold
 
 __all__ = ["arguments", "run"]
 
