@@ -9,6 +9,7 @@ refused book has "refused": number, place, where and when.
 import argparse
 import os
 import shutil
+from functools import partial
 
 from .. import Refusal, chart, quote
 from .._units import sold
@@ -71,7 +72,7 @@ def run(asked: argparse.Namespace) -> int:
     try:
         if name != "-" and os.path.exists(place) and os.path.samefile(name, place):
             raise OSError(0, "the picture would take the book's place")
-        return answered(asked, name, lambda: _answer(book, place))
+        return answered(asked, name, partial(_answer, book, place))
     except OSError as error:
         complain(f"{shown(place)}: {error.strerror}")
         return UNREADABLE

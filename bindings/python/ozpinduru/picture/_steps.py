@@ -57,7 +57,9 @@ def _outline(panel: Panel, seen: list[Step]) -> str:
     for step in seen:
         steps += ["V", panel.y(step.price)]
         steps += ["H", panel.x(step.end)] if step.price <= panel.view.top else ["M", panel.x(step.end), panel.high]
-    return way("outline", *steps, *(["V", panel.foot] if last.end <= panel.view.high else []))
+    if last.end <= panel.view.high:
+        steps += ["V", panel.foot]
+    return way("outline", *steps)
 
 
 def steps(panel: Panel, stack: Stack) -> str:
