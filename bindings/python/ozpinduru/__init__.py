@@ -9,10 +9,11 @@ from ._clearing import Clearing, Columns, Quote, Row, clear, clear_columns, quot
 from ._comparison import Comparison, RefusedBook, compare
 from ._curve import Curve, ExactPrice, curve, price_at
 from ._refusal import Fault, Refusal, report, version, words
+from .picture import chart
 
 __version__ = "0.4.0"
 __all__ = [
     "Book", "Clearing", "Columns", "Comparison", "Curve", "ExactPrice", "Fault", "Offer", "Parameters", "Quote", "Refusal",
     "RefusedBook", "Row",
-    "clear", "clear_columns", "compare", "curve", "days", "price_at", "quote", "read", "report", "version", "words",
+    "chart", "clear", "clear_columns", "compare", "curve", "days", "price_at", "quote", "read", "report", "version", "words",
 ]

@@ -8,7 +8,7 @@ from dataclasses import asdict
 
 from .. import quote
 from ._books import Answer, arguments, each
-from ._units import money, sold
+from .._units import money, sold
 
 __all__ = ["arguments", "run"]
 

@@ -11,7 +11,7 @@ from typing import Optional
 from .. import ExactPrice, Parameters, curve, price_at, read
 from ._books import Answer, answered, as_json, each
 from ._streams import complain
-from ._units import dollars, megawatts
+from .._units import dollars, megawatts
 
 _PARAMETERS = {
     "year": "delivery year: its first calendar year",

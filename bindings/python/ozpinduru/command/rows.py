@@ -7,7 +7,7 @@ import argparse
 
 from .. import clear
 from ._books import Answer, arguments, each
-from ._units import megawatts, money, sold
+from .._units import megawatts, money, sold
 
 __all__ = ["arguments", "run"]
 
