@@ -17,7 +17,7 @@ from .. import Comparison, Offer, Parameters, Quote, RefusedBook, compare, read
 from .._refusal import FIELDS
 from ._books import ANSWERED, REFUSED, UNREADABLE, as_json, opened, shown
 from ._streams import complain, say
-from ._units import dollars, money, sold
+from .._units import dollars, money, sold
 
 _FIELDS = ("year", "cost", "offset", "outage", "requirement")
 
