@@ -84,7 +84,7 @@ exportedMakeWhole kind price cleared committed =
     cond (eqb kind 1) (mills (some price) (committed - cleared))
     (cond (eqb kind 2) (mills none (committed - cleared)) noAmount)
 
--- ---- the version of the interface: 0.2.0
+-- ---- the version of the interface: 0.5.0
 
 abbrev pub version : ℕ
-version = 2000
+version = 5000
