@@ -19,14 +19,14 @@ pub fn by_margin(year: u32) -> bool
 
 // How many of the values a year needs, in the order of their marks: the margin, the last, in the years that go by it.
 fn values_needed(year: u32) -> u32
-    ensures { λ r. ⌜ r ≡ valuesNeeded year ⌝ }
+    ensures { λ r. ⌜ (r ≡ valuesNeeded (byMargin year)) × (r ≤ 5) ⌝ }
 {
     if by_margin(year) { 5 } else { 4 }
 }
 
 // 4 by the marks: trailing zeros of the inverted marks, plus two, give the first missing field, where the year needs it.
 pub fn missing(year: u32, marks: u8) -> Verdict
-    ensures { λ r. ⌜ r ≡ missingMarks year marks ⌝ }
+    ensures { λ r. ⌜ r ≡ missingMarks (byMargin year) marks ⌝ }
 {
     let gap = u8::trailing_zeros(!marks);
     if gap < values_needed(year) {
