@@ -40,6 +40,11 @@ pub margin-early : {year : ℕ} → 2022 ≤ year → year ≤ 2025 → byMargin
 unfolding byMargin
 margin-early {year} from to = and-true (leb 2022 year) (leb year 2025) (le-leb 2022 year from) (le-leb year 2025 to)
 
+-- and none after 2025
+pub margin-until : {year : ℕ} → byMargin year ≡ true → year ≤ 2025
+unfolding byMargin
+margin-until {year} e = within-to 2022 2025 year e
+
 and-off : (s t : Bool) → t ≡ false → s && t ≡ false
 and-off true t e = e
 and-off false t e = refl

@@ -1,14 +1,35 @@
 -- The curve of parameters that are given and in range: its terms are in range, and it never rises.
+--
+-- In order: the terms; the weights that the year selects, by the two cases of the choice; the curve.
 -- Assumes nothing.
+use mathlib.Core.Path.{_≡_, sym, subst}
+use mathlib.Core.Bool.{true, false}
+use Prim.Native.Nat.{ℕ, _+_, _≤_}
+use Rattle.laws.proofs.Cases.{by-test, cond-true, cond-false}
 use Rattle.auction.specs.Offers.{Falling}
+use Rattle.values.specs.Values.{held}
 use Rattle.values.specs.declared.head.Parameters.{Parameters}
+use Rattle.limits.specs.Parameters.{byMargin}
 use Rattle.limits.specs.Ranges.{Ranged}
+use Rattle.limits.proofs.Passing.{margin-until}
+use Rattle.curve.specs.Points.{curveOf}
 use Rattle.curve.specs.inner.Points.{InRange}
-use Rattle.curve.specs.Shape.{Shaped}
+use Rattle.curve.specs.Shape.{Shaped, weights2022, weights2026}
+use Rattle.curve.specs.inner.Shape.{Usable}
 use Rattle.curve.specs.Price.{demandOf}
-use Rattle.curve.proofs.Shapes.{curve2026-shaped}
+use Rattle.curve.proofs.Shapes.{curve-shaped, y2022-usable, y2026-usable}
 use Rattle.curve.proofs.Prices.{curve-falls}
 use Rattle.region.specs.Region.{termsOf, regionCurve}
+
+-- which curve the year selects
+module _ (p : Parameters) where
+  pub region-early : byMargin (p .year) ≡ true → regionCurve p ≡ curveOf weights2022 (10000 + held (p .margin)) (termsOf p)
+  unfolding regionCurve
+  region-early early = cond-true _ _ _ early
+
+  pub region-late : byMargin (p .year) ≡ false → regionCurve p ≡ curveOf weights2026 10000 (termsOf p)
+  unfolding regionCurve
+  region-late late = cond-false _ _ _ late
 
 module _ (p : Parameters) (r : Ranged p) where
   pub terms-in-range : InRange (termsOf p)
@@ -22,9 +43,16 @@ module _ (p : Parameters) (r : Ranged p) where
         requirement-most = r .requirement-to;
       }
 
+  -- in a year that goes by the margin it is 50 percent at most
+  pub margin-most : byMargin (p .year) ≡ true → held (p .margin) ≤ 5000
+  margin-most early = r .margin-to (margin-until early)
+
   pub region-shaped : Shaped (regionCurve p)
-  unfolding regionCurve
-  region-shaped = curve2026-shaped (termsOf p) terms-in-range
+  region-shaped =
+      by-test (byMargin (p .year))
+      (λ early. subst Shaped (sym (region-early p early))
+      (curve-shaped weights2022 (10000 + held (p .margin)) (termsOf p) (y2022-usable _ (margin-most early)) terms-in-range))
+      (λ late. subst Shaped (sym (region-late p late)) (curve-shaped weights2026 10000 (termsOf p) y2026-usable terms-in-range))
 
   pub region-falls : Falling (demandOf (regionCurve p))
   region-falls = curve-falls (regionCurve p) region-shaped
