@@ -4,7 +4,7 @@
 //! - `sound`: the first fault of a book whose missing values are no fault.
 //! - `printed`: what the program `clear` prints for a book.
 //! - `row`: what the reader hands back for a row.
-//! - `curve`, `price_at`: the requirement curve.
+//! - `curve`, `curve_by_margin`, `price_at`: the requirement curve.
 //!
 //! The rest by module: `book` reads and checks bytes, `limits` holds the ranges, `calendar` the days of delivery years, `clearing` is the auction as a function of a
 //! falling curve and priced offers, `make` writes books, `random` makes books and calls from a seed.
@@ -20,7 +20,7 @@ pub mod limits;
 pub mod make;
 pub mod random;
 
-pub use curve::{curve, price_at, Point};
+pub use curve::{curve, curve_by_margin, price_at, Point};
 
 use clearing::Priced;
 
