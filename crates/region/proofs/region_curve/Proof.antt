@@ -51,22 +51,20 @@ points-requires-2 c κs =
 
 returns : tie.Need-returns
 returns c =
-    let held-margin = c .before in
-    (
+    let held-margin = c .before in (
       c .points .ensures .0
-      ∙ ap₂ (λ (margin : ℕ) (t : Terms). curveOf weights2022 (10000 + margin) t) (held-margin .number-held .ensures)
-      (held-margin .before .before .before .terms-of .ensures)
-      ∙ sym (region-early _ (early (held-margin .before))),
-      c .points .ensures .1
+          ∙ ap₂ (λ (margin : ℕ) (t : Terms). curveOf weights2022 (10000 + margin) t) (held-margin .number-held .ensures)
+          (held-margin .before .before .before .terms-of .ensures)
+          ∙ sym (region-early _ (early (held-margin .before))),
+      c .points .ensures .1,
     )
 
 returns-2 : tie.Need-returns-2
-returns-2 c =
-    (
-      c .points2 .ensures .0 ∙ ap (curveOf weights2026 10000) (c .before .before .before .terms-of .ensures)
+returns-2 c = (
+  c .points2 .ensures .0 ∙ ap (curveOf weights2026 10000) (c .before .before .before .terms-of .ensures)
       ∙ sym (region-late _ (late (c .before))),
-      c .points2 .ensures .1
-    )
+  c .points2 .ensures .1,
+)
 
 pub region-curve-spec : {M : Type 1} → statement M
 region-curve-spec =
