@@ -8,4 +8,5 @@ pub mod Lowest
 pub mod Rows
 pub mod Passing
 pub mod PassingRows
+pub mod Margins
 pub mod Decided

@@ -117,6 +117,10 @@ in-range p e =
     let m = unless-passed (marginWithin (p .year) (p .margin)) 5 6 (r .1) in
     record { year = y .0; cost = c .0; offset = o .0; outage = f .0; requirement = r .0; margin = m }
 
+-- Parameters of a year from 2026 on that 5 does not refuse have no margin.
+pub parameters-margin : (p : Parameters) → rangeFault p ≡ Passed → 2026 ≤ p .year → p .margin ≡ Missing
+parameters-margin p f late = margin-absent (p .year) (p .margin) (margin-late late) (in-range p f .margin)
+
 -- Parameters that neither 4 nor 5 refuses are given and within their ranges.
 pub parameters-ranged : (p : Parameters) → missingFault p ≡ Passed → rangeFault p ≡ Passed → Ranged p
 parameters-ranged p e f =
@@ -141,5 +145,5 @@ parameters-ranged p e f =
       requirement-to = within-to 1000 2000000 _ requirement;
       margin-given = λ early. given .margin (margin-early from early);
       margin-to = λ early. margin-most (p .year) _ (p .margin) (test .margin) (given .margin (margin-early from early));
-      margin-none = λ late. margin-absent (p .year) (p .margin) (margin-late late) (test .margin);
+      margin-none = parameters-margin p f;
     }

@@ -1,6 +1,7 @@
 -- The curve of parameters that are given and in range: its terms are in range, and it never rises.
 --
--- In order: the terms; the weights that the year selects, by the two cases of the choice; the curve.
+-- In order: the curve by the test of the year; the terms; that it goes right and never up; the curve by the year itself; that
+-- its price never rises.
 -- Assumes nothing.
 use mathlib.Core.Path.{_≡_, sym, subst}
 use mathlib.Core.Bool.{true, false}
@@ -11,7 +12,7 @@ use Rattle.values.specs.Values.{held}
 use Rattle.values.specs.declared.head.Parameters.{Parameters}
 use Rattle.limits.specs.Parameters.{byMargin}
 use Rattle.limits.specs.Ranges.{Ranged}
-use Rattle.limits.proofs.Passing.{margin-until}
+use Rattle.limits.proofs.Passing.{margin-early, margin-until, margin-late}
 use Rattle.curve.specs.Points.{curveOf}
 use Rattle.curve.specs.inner.Points.{InRange}
 use Rattle.curve.specs.Shape.{Shaped, weights2022, weights2026}
@@ -53,6 +54,14 @@ module _ (p : Parameters) (r : Ranged p) where
       (λ early. subst Shaped (sym (region-early p early))
       (curve-shaped weights2022 (10000 + held (p .margin)) (termsOf p) (y2022-usable _ (margin-most early)) terms-in-range))
       (λ late. subst Shaped (sym (region-late p late)) (curve-shaped weights2026 10000 (termsOf p) y2026-usable terms-in-range))
+
+  -- THE CURVE OF 2022 TO 2025. Up to 2025 the weights of 2022 make it, with 100 percent and the margin for the requirement.
+  pub region-2022 : p .year ≤ 2025 → regionCurve p ≡ curveOf weights2022 (10000 + held (p .margin)) (termsOf p)
+  region-2022 early = region-early p (margin-early (r .year-from) early)
+
+  -- From 2026 on those of 2026 do, with 100 percent for it.
+  pub region-2026 : 2026 ≤ p .year → regionCurve p ≡ curveOf weights2026 10000 (termsOf p)
+  region-2026 late = region-late p (margin-late late)
 
   pub region-falls : Falling (demandOf (regionCurve p))
   region-falls = curve-falls (regionCurve p) region-shaped
