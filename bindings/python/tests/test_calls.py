@@ -99,20 +99,6 @@ class Curves(unittest.TestCase):
         prices = {0: 50_000, 9_900: 50_000, 10_000: 37_500, 10_151: 18_687, 10_450: 0, 10_451: None, 2**32: None, 10**30: None}
         self.assertEqual({k: price_at(GIVEN, k) for k in prices}, prices)
 
-    def test_the_year_selects(self):
-        for margin, (q1, q2, q3) in {0: (9_880, 10_190, 10_780), 1_500: (9_896, 10_165, 10_678), 5_000: (9_920, 10_127, 10_520)}.items():
-            given = replace(GIVEN, year=2025, margin=margin)
-            self.assertEqual(curve(given), Curve(p1=50_000, q1=q1, p2=18_750, q2=q2, p3=0, q3=q3))
-            self.assertEqual(quote(book([offer(1, 0, 11_000)], year=2025, margin=margin)).total, q3)
-        self.assertEqual(curve(replace(GIVEN, year=2022, offset=0, margin=0)).p1, 75_000)
-        for year, margin, refused in [(2022, None, 4), (2025, 5_001, 5), (2025, 2**32, 5), (2025, -1, 5), (2026, 0, 5), (2099, 1, 5)]:
-            with self.subTest((year, margin)):
-                said = rf"^refused {refused} at field 6 \(reserve margin\)"
-                self.assertRaisesRegex(Refusal, said, curve, replace(GIVEN, year=year, margin=margin))
-                if margin is None or 0 <= margin < 2**32:
-                    self.assertRaisesRegex(Refusal, said, clear, book([], year=year, margin=margin))
-        self.assertRaisesRegex(Refusal, "^refused 5 at field 1 ", curve, replace(GIVEN, year=2021))
-
     def test_refusals(self):
         names = ("year", "cost", "offset", "outage", "requirement")
         for call in (curve, lambda parameters: price_at(parameters, 0)):
