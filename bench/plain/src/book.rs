@@ -1,7 +1,7 @@
 //! Reading: length, checks, layout, and the limits of the values.
 
 use crate::block::{check_holds, head_laid_out, u16_at, u32_at, zero, BLOCK};
-use crate::curve::Curve;
+use crate::curve::{Curve, Rule};
 use crate::manner::Manner;
 use crate::Fault;
 use std::collections::HashSet;
@@ -17,6 +17,7 @@ pub struct Parameters {
     offset: u32,
     outage: u32,
     requirement: u32,
+    margin: u32,
     marks: u8,
 }
 
@@ -86,16 +87,19 @@ impl Parameters {
             offset: u32_at(head, 12),
             outage: u32_at(head, 16),
             requirement: u32_at(head, 20),
+            margin: u32_at(head, 28),
             marks: head[26],
         }
     }
 
     /// The curve, or refusals 4 and 5.
     pub fn curve(&self) -> Result<Curve, Fault> {
-        if self.marks != 0b1111 {
-            return Err((4, self.marks.trailing_ones() + 2));
+        let by_margin = (2022..=2025).contains(&self.year);
+        let given = self.marks.trailing_ones();
+        if given < if by_margin { 5 } else { 4 } {
+            return Err((4, given + 2));
         }
-        let field = if !(2026..=2099).contains(&self.year) {
+        let field = if !(2022..=2099).contains(&self.year) {
             1
         } else if !(1..=1_000_000).contains(&self.cost) {
             2
@@ -105,8 +109,11 @@ impl Parameters {
             4
         } else if !(1_000..=2_000_000).contains(&self.requirement) {
             5
+        } else if self.margin > 5_000 || (given == 5) != by_margin {
+            6
         } else {
-            return Ok(Curve::new(self.cost, self.offset, self.outage, self.requirement));
+            let rule = if by_margin { Rule::by_margin(self.margin) } else { Rule::FROM_2026 };
+            return Ok(Curve::new(self.cost, self.offset, self.outage, self.requirement, rule));
         };
         Err((5, field))
     }

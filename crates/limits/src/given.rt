@@ -1,11 +1,12 @@
 // Refusals 4 and 5 on parameters that stand in no book: what is missing is told by the values and not by marks.
+use crate::parameters::by_margin;
 use crate::parameters::parameter_fault;
 use values::Value;
 use values::Verdict;
 use values::head::Parameters;
 ghost use mathlib.Core.Path.{_≡_};
 ghost use Rattle.values.specs.Refusals.{andThen};
-ghost use Rattle.limits.specs.Parameters.{fieldFault};
+ghost use Rattle.limits.specs.Parameters.{fieldFault, marginFault};
 ghost use Rattle.limits.specs.Given.{parametersFault};
 
 // 4 at a field whose value is missing, and else what comes next.
@@ -18,6 +19,17 @@ fn needed(field: u32, v: Value, next: Verdict) -> Verdict
     }
 }
 
+// 4 at a margin that is missing in a year whose curve goes by it, and else what comes next.
+fn margin_needed(year: u32, margin: Value, next: Verdict) -> Verdict
+    ensures { λ r. ⌜ r ≡ andThen (marginFault year margin) next ⌝ }
+{
+    if by_margin(year) {
+        needed(6, margin, next)
+    } else {
+        next
+    }
+}
+
 // 4, and then 5 by field.
 pub fn parameters_verdict(p: Parameters) -> Verdict
     ensures { λ r. ⌜ r ≡ parametersFault p ⌝ }
@@ -26,6 +38,8 @@ pub fn parameters_verdict(p: Parameters) -> Verdict
     let offset = p.offset;
     let outage = p.outage;
     let requirement = p.requirement;
-    let last = needed(5, requirement, parameter_fault(p));
-    needed(2, cost, needed(3, offset, needed(4, outage, last)))
+    let margin = p.margin;
+    let last = margin_needed(p.year, margin, parameter_fault(p));
+    let from_outage = needed(4, outage, needed(5, requirement, last));
+    needed(2, cost, needed(3, offset, from_outage))
 }
