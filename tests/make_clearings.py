@@ -8,7 +8,8 @@ The lines that are expected stand here beside each book, worked out by hand from
 
 The reference curve falls by 125 cents a tenth from 50,000 at 9,900 to 18,750 at 10,150, then by 62.5 to 0 at 10,450.
 """
-from write_book import TESTS, THREE, book, files_beside, keep, many, offer
+from margin_clearings import margin_cases
+from write_book import TESTS, THREE, book, files_beside, keep, many, offer, one
 
 NINE_THOUSAND = "cleared 9000 / price 50000 / 21 9000 9000 0 / daily 450000000"
 NOTHING = "price - / 21 0 0 0 / daily 0 / year 0"
@@ -19,10 +20,6 @@ LARGEST = 2**32 - 1
 def each(lines):
     """Lines of rows that differ in a number."""
     return " / ".join(lines)
-
-
-def one(quantity, price=0, **rest):
-    return [offer(21, price, quantity, **rest)]
 
 
 def reference_cases():
@@ -77,32 +74,6 @@ def curve_cases():
         "cleared 500 / price 1 / 21 500 500 0 / daily 500 / year 182500"
     yield "offers-dearer-than-p1", book([offer(21, 60_000, 1_000), offer(22, 0, 9_000), offer(23, 1_000_000, 500)]), \
         "cleared 9000 / price 50000 / 21 0 0 0 / 22 9000 9000 0 / 23 0 0 0 / daily 450000000 / year 164250000000"
-
-
-def margin_cases():
-    """The curve of 2022 to 2025. With 15 percent its quantities are 9,896, 10,165 and 10,678, by 11,380, 11,690 and 12,280 over
-    11,500: at 10,000 the first line has (50,000 x 165 + 18,750 x 104) / 269, or 37,918 and a fraction."""
-    of_15 = dict(year=2024, margin=1_500)
-    yield "margin-1500-in-2024-q1-9896", book(one(9_896), **of_15), \
-        "cleared 9896 / price 50000 / 21 9896 9896 0 / daily 494800000 / year 180602000000"
-    yield "margin-1500-in-2024-curve-at-10000", book(one(10_000), **of_15), \
-        "cleared 10000 / price 37918 / 21 10000 10000 0 / daily 379180000 / year 138400700000"
-    yield "margin-1500-in-2024-q2-10165", book(one(10_165), **of_15), \
-        "cleared 10165 / price 18750 / 21 10165 10165 0 / daily 190593750 / year 69566718750"
-    yield "margin-1500-in-2024-q3-10678", book(one(11_000), **of_15), \
-        "cleared 10678 / price 0 / 21 10678 10678 0 / daily 0 / year 0"
-    yield "margin-0-in-2022-offset-0-p1-75000", book(one(9_000), year=2022, margin=0, offset=0), \
-        "cleared 9000 / price 75000 / 21 9000 9000 0 / daily 675000000 / year 246375000000"
-    yield "margin-0-in-2023-of-366-days", book(one(9_000), year=2023, margin=0), f"{NINE_THOUSAND} / year 164700000000"
-    # 1,125 x 9,880 / 10,000 is 1,111.5
-    yield "margin-0-in-2025-q1-of-a-half-goes-up", book(one(1_112), year=2025, margin=0, requirement=1_125), \
-        "cleared 1112 / price 50000 / 21 1112 1112 0 / daily 55600000 / year 20294000000"
-    yield "margin-5000-in-2025-q3-10520", book(one(11_000), year=2025, margin=5_000), \
-        "cleared 10520 / price 0 / 21 10520 10520 0 / daily 0 / year 0"
-    yield "margin-5001-in-2025", book(one(9_000), year=2025, margin=5_001), "refused 5 6"
-    yield "margin-missing-in-2025-is-not-zero", book(one(9_000), year=2025), "refused 4 6"
-    yield "margin-0-in-2026-is-a-margin", book(one(9_000), margin=0), "refused 5 6"
-    yield "year-2021", book(one(9_000), year=2021, margin=1_500), "refused 5 1"
 
 
 def tie_cases():

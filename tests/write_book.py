@@ -71,6 +71,11 @@ def many(n):
     return [offer(row + 1, price=row, quantity=row % 50 + 1, stamp=row) for row in range(n)]
 
 
+def one(quantity, price=0, **rest):
+    """The offers of a book that has one."""
+    return [offer(21, price, quantity, **rest)]
+
+
 THREE = [offer(11, 10_000, 9_900, stamp=1), offer(12, 37_500, 200, stamp=2), offer(13, 37_500, 100, block=50, stamp=3)]
 
 

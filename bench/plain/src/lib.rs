@@ -11,6 +11,7 @@ mod block;
 mod book;
 mod curve;
 mod manner;
+mod parameters;
 
 use auction::Auction;
 use book::{Book, Offer};
