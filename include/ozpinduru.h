@@ -1,8 +1,8 @@
 /* ozpinduru: clears a capacity auction of one region from a book of bytes. For x86-64 Linux.
  *
  * Units. Quantities are tenths of a megawatt, prices whole cents per MW-day, amounts mills (tenths of a cent), costs whole
- * dollars per MW-year, the outage rate hundredths of a percent. No amount is rounded. ozp_price_at alone says what lies between
- * two cents.
+ * dollars per MW-year, the outage rate and the reserve margin hundredths of a percent. No amount is rounded. ozp_price_at alone
+ * says what lies between two cents.
  *
  * Every function answers every input, and its answer is proved to be the one described here. None keeps state, allocates or
  * looks at anything but its arguments, so any number of threads may call at once, also on one book. Of the C library they use
@@ -29,7 +29,7 @@ extern "C" {
 #endif
 
 #define OZP_VERSION_MAJOR 0
-#define OZP_VERSION_MINOR 4
+#define OZP_VERSION_MINOR 5
 #define OZP_VERSION_PATCH 0
 #define OZP_VERSION (OZP_VERSION_MAJOR * 1000000 + OZP_VERSION_MINOR * 1000 + OZP_VERSION_PATCH)
 
@@ -66,14 +66,15 @@ enum {
 };
 
 /* fields: the place of 4 and 5 */
-enum { OZP_YEAR = 1, OZP_COST = 2, OZP_OFFSET = 3, OZP_OUTAGE = 4, OZP_REQUIREMENT = 5 };
+enum { OZP_YEAR = 1, OZP_COST = 2, OZP_OFFSET = 3, OZP_OUTAGE = 4, OZP_REQUIREMENT = 5, OZP_MARGIN = 6 };
 
 /* A value that may be missing: OZP_GIVEN with its number, or OZP_MISSING, when the number is all ones on the way out and not
  * looked at on the way in. On the way in any other kind is a value out of range. */
 typedef struct { uint32_t kind, number; } ozp_value;
 
-/* Parameters: the first calendar year, C, E, F and R. */
-typedef struct { uint32_t year; ozp_value cost, offset, outage, requirement; } ozp_parameters;
+/* Parameters: the first calendar year, C, E, F, R and the reserve margin, which a year from 2022 to 2025 needs and no other year
+ * has: OZP_MISSING there. */
+typedef struct { uint32_t year; ozp_value cost, offset, outage, requirement, margin; } ozp_parameters;
 
 /* A row of a book. With no block the offer is flexible. A stamp may be any number, also all ones. */
 typedef struct { uint64_t stamp; uint32_t resource, seller, quantity; ozp_value price, block; } ozp_row;
@@ -150,8 +151,10 @@ ozp_contents ozp_read(const uint8_t *book, size_t book_bytes, ozp_row *rows, siz
  * where the second book has no such offer more, and `row` where the first has none. */
 ozp_comparison ozp_compare(const uint8_t *first, size_t first_bytes, const uint8_t *second, size_t second_bytes);
 
-/* The curve that parameters make. Refused by 4 at the lowest missing field; else by 5 at the lowest field out of range: the
- * year is 2026 to 2099, C 1 to 1,000,000, E 0 to C, F 0 to 5,000 and R 1,000 to 2,000,000. */
+/* The curve that parameters make: the year selects it, that of 2022 to 2025 with the reserve margin, or that from 2026 on.
+ * Refused by 4 at the lowest missing field, the margin among them where the year goes by it; else by 5 at the lowest field out of
+ * range: the year is 2022 to 2099, C 1 to 1,000,000, E 0 to C, F 0 to 5,000, R 1,000 to 2,000,000, the margin 0 to 5,000, and
+ * from 2026 on none is given, not even 0. */
 ozp_curve_points ozp_curve(ozp_parameters parameters);
 
 /* The price at quantity k of the curve that parameters make, between cents, refused as by ozp_curve. */

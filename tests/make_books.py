@@ -36,6 +36,27 @@ def accepted():
                       offset=1_000_000, outage=5_000, requirement=2_000_000), 1)
 
 
+def margins():
+    """The years 2022 to 2025 need a margin of 0 to 5,000, and others have none: 0 is a margin too."""
+    for year in (2022, 2025):
+        yield passes(f"margin-0-in-{year}", book(THREE, year=year, margin=0), 3)
+        yield passes(f"margin-5000-in-{year}", book(THREE, year=year, margin=5_000), 3)
+        yield fails(f"margin-missing-in-{year}", book(THREE, year=year), 4, 6, 3, sound=True)
+        yield fails(f"margin-5001-in-{year}", book(THREE, year=year, margin=5_001), 5, 6, 3)
+    yield fails("margin-of-all-ones-in-2024", book([], year=2024, margin=2**32 - 1), 5, 6, 0)
+    yield fails("margin-0-in-2026", book(THREE, margin=0), 5, 6, 3)
+    yield fails("margin-1500-in-2099", book([], year=2099, margin=1_500), 5, 6, 0)
+    yield fails("margin-1500-in-2021-is-the-year", book([], year=2021, margin=1_500), 5, 1, 0)
+    yield fails("margin-missing-in-2021-is-the-year", book([], year=2021), 5, 1, 0)
+    yield ("margin-missing-before-a-range", book([], year=2024, requirement=999), (4, 6), (5, 5), 0)
+    yield fails("margin-missing-after-a-missing-requirement", book([], year=2024, requirement=None), 4, 5, 0, sound=True)
+    yield fails("margin-alone-given-in-2024",
+                book([], year=2024, cost=None, offset=None, outage=None, requirement=None, margin=1_500), 4, 2, 0, sound=True)
+    yield ("margin-in-2026-after-a-missing-cost", book([], cost=None, margin=1_500), (4, 2), (5, 6), 0)
+    yield fails("margin-after-a-requirement-out-of-range", book([], year=2024, requirement=999, margin=5_001), 5, 5, 0)
+    yield fails("margin-before-any-row", book([offer(0)], year=2024, margin=5_001), 5, 6, 1)
+
+
 def form():
     for part in (lengths, checks, head_layouts, row_layouts):
         for name, data, number, where in part():
@@ -57,7 +78,7 @@ def missing_parameters():
 
 
 def parameter_ranges():
-    yield fails("year-2025", book([], year=2025), 5, 1, 0)
+    yield fails("year-2021", book([], year=2021), 5, 1, 0)
     yield fails("year-2100", book([], year=2100), 5, 1, 0)
     yield fails("cost-0", book([], cost=0, offset=0), 5, 2, 0)
     yield fails("cost-1000001", book([], cost=1_000_001), 5, 2, 0)
@@ -104,7 +125,7 @@ def words(fault, passed, refused):
 
 def cases():
     """Each book's name, its bytes, and its line."""
-    for part in (accepted, form, missing_parameters, parameter_ranges, missing_prices, offer_ranges, repeats):
+    for part in (accepted, margins, form, missing_parameters, parameter_ranges, missing_prices, offer_ranges, repeats):
         for name, data, clearing, sound, rows_read in part():
             verdict, soundness = words(clearing, "accepted", "refused"), words(sound, "sound", "unsound")
             yield name, data, f"{name}.book: {verdict}, {soundness}, rows {rows_read}\n"

@@ -23,10 +23,10 @@ def number(value):
     return 0 if value is None else value
 
 
-def head(offers, edition=1, year=2026, cost=None, offset=None, outage=None, requirement=None, letters=b"RPMB"):
-    given = [cost, offset, outage, requirement]
+def head(offers, edition=1, year=2026, cost=None, offset=None, outage=None, requirement=None, margin=None, letters=b"RPMB"):
+    given = [cost, offset, outage, requirement, margin]
     marks = sum(1 << bit for bit, value in enumerate(given) if value is not None)
-    text = letters + struct.pack("<HHIIIIHB", edition, year, *map(number, given), offers, marks)
+    text = letters + struct.pack("<HHIIIIHBxI", edition, year, *map(number, given[:4]), offers, marks, number(margin))
     return bytearray(text.ljust(508, b"\0"))
 
 
@@ -69,6 +69,11 @@ def damaged(whole, changes):
 
 def many(n):
     return [offer(row + 1, price=row, quantity=row % 50 + 1, stamp=row) for row in range(n)]
+
+
+def one(quantity, price=0, **rest):
+    """The offers of a book that has one."""
+    return [offer(21, price, quantity, **rest)]
 
 
 THREE = [offer(11, 10_000, 9_900, stamp=1), offer(12, 37_500, 200, stamp=2), offer(13, 37_500, 100, block=50, stamp=3)]

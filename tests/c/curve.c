@@ -17,6 +17,16 @@ static ozp_parameters all(uint32_t year, uint32_t cost, uint32_t offset, uint32_
     p.offset = given(offset);
     p.outage = given(outage);
     p.requirement = given(requirement);
+    p.margin.kind = OZP_MISSING;
+    p.margin.number = OZP_NO_VALUE;
+    return p;
+}
+
+/* the reference parameters in another year, with a reserve margin */
+static ozp_parameters with_margin(uint32_t year, uint32_t margin)
+{
+    ozp_parameters p = all(year, 146000, 73000, 2000, 10000);
+    p.margin = given(margin);
     return p;
 }
 
@@ -35,17 +45,19 @@ static void expect_no_curve(ozp_parameters p, unsigned number, unsigned place)
 
 static ozp_value *field(ozp_parameters *p, unsigned place)
 {
-    return place == OZP_COST ? &p->cost : place == OZP_OFFSET ? &p->offset : place == OZP_OUTAGE ? &p->outage : &p->requirement;
+    ozp_value *fields[] = {&p->cost, &p->offset, &p->outage, &p->requirement, &p->margin};
+    return fields[place - OZP_COST];
 }
 
-/* a value that is missing is 4 whatever its number, and one of any other kind is 5, as if it were given and out of range */
+/* a value that is missing is 4 whatever its number, and one of any other kind is 5, as if it were given and out of range; in 1999
+   the margin is not needed, and the requirement before it is the first that is missing */
 static void kinds(void)
 {
     static const uint32_t wrong[] = {0, OZP_NONE, OZP_REFUSED, 5, UINT32_MAX};
     unsigned place;
     size_t i;
-    for (place = OZP_COST; place <= OZP_REQUIREMENT; place++) {
-        ozp_parameters p = all(2026, 146000, 73000, 2000, 10000);
+    for (place = OZP_COST; place <= OZP_MARGIN; place++) {
+        ozp_parameters p = with_margin(2025, 1500);
         for (i = 0; i < LENGTH(wrong); i++) {
             field(&p, place)->kind = wrong[i];
             expect_no_curve(p, OZP_PARAMETER_OUT_OF_RANGE, place);
@@ -54,7 +66,7 @@ static void kinds(void)
         expect_no_curve(p, OZP_MISSING_PARAMETER, place);
         p.year = 1999;
         p.requirement.kind = OZP_MISSING;
-        expect_no_curve(p, OZP_MISSING_PARAMETER, place);
+        expect_no_curve(p, OZP_MISSING_PARAMETER, place == OZP_MARGIN ? place - 1 : place);
     }
 }
 
@@ -103,10 +115,31 @@ static void between_cents(void)
     expect_none(largest, 2090001);
 }
 
+/* the years 2022 to 2025 need a margin of 0 to 5,000, and a later year has none, not even 0 */
+static void margins(void)
+{
+    static const uint32_t has[][4] = {{0, 9880, 10190, 10780}, {1500, 9896, 10165, 10678}, {5000, 9920, 10127, 10520}};
+    uint32_t year;
+    size_t i;
+    for (year = 2022; year <= 2025; year++) {
+        for (i = 0; i < LENGTH(has); i++) {
+            ozp_curve_points c = ozp_curve(with_margin(year, has[i][0]));
+            expect(c.p1 == 50000 && c.p2 == 18750 && c.p3 == 0, "curve", "prices with a margin");
+            expect(c.q1 == has[i][1] && c.q2 == has[i][2] && c.q3 == has[i][3], "curve", "quantities by a margin");
+        }
+        expect_no_curve(all(year, 146000, 73000, 2000, 10000), OZP_MISSING_PARAMETER, OZP_MARGIN);
+        expect_no_curve(with_margin(year, 5001), OZP_PARAMETER_OUT_OF_RANGE, OZP_MARGIN);
+        expect_no_curve(with_margin(year, UINT32_MAX), OZP_PARAMETER_OUT_OF_RANGE, OZP_MARGIN);
+    }
+    expect_no_curve(with_margin(2021, 1500), OZP_PARAMETER_OUT_OF_RANGE, OZP_YEAR);
+    expect_no_curve(with_margin(2026, 0), OZP_PARAMETER_OUT_OF_RANGE, OZP_MARGIN);
+    expect_no_curve(with_margin(2099, 1500), OZP_PARAMETER_OUT_OF_RANGE, OZP_MARGIN);
+}
+
 void curve(void)
 {
     static const uint32_t wrong[][6] = {
-        {2025, 0, 0, 5001, 0, OZP_YEAR},           {2100, 1, 0, 0, 1000, OZP_YEAR},
+        {2021, 0, 0, 5001, 0, OZP_YEAR},           {2100, 1, 0, 0, 1000, OZP_YEAR},
         {2026, 0, 0, 0, 1000, OZP_COST},           {2026, 1000001, 0, 0, 1000, OZP_COST},
         {2026, 146000, 146001, 0, 1000, OZP_OFFSET}, {2026, 146000, 0, 5001, 999, OZP_OUTAGE},
         {2026, 146000, 0, 0, 999, OZP_REQUIREMENT}, {2026, 146000, 0, 0, 2000001, OZP_REQUIREMENT},
@@ -127,6 +160,7 @@ void curve(void)
     }
     between_cents();
     kinds();
+    margins();
 }
 
 void make_whole(void)

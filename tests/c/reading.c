@@ -37,7 +37,7 @@ static void expect_kept(ozp_contents c, unsigned number, unsigned place, const c
     expect(c.kind == OZP_REFUSED && c.number == number && c.place == place, name, "number and place of what is not read");
     expect(c.rows == OZP_NO_VALUE && p.year == OZP_NO_VALUE, name, "what is not read has no values");
     expect(is_value(p.cost, OZP_NONE) && is_value(p.offset, OZP_NONE) && is_value(p.outage, OZP_NONE)
-               && is_value(p.requirement, OZP_NONE),
+               && is_value(p.requirement, OZP_NONE) && is_value(p.margin, OZP_NONE),
            name, "what is not read has no parameters");
     expect(untouched(0), name, "what is not read leaves the entries");
 }
@@ -49,7 +49,7 @@ void expect_rows(const uint8_t *book, size_t bytes, size_t count, const char *na
     ozp_parameters p = c.parameters;
     size_t i, wrong = 0;
     expect(c.kind == OZP_GIVEN && c.rows == count && c.number == OZP_NO_VALUE && c.place == OZP_NO_VALUE, name, "every row is read");
-    expect(either(p.cost) && either(p.offset) && either(p.outage) && either(p.requirement), name, "kinds of the parameters");
+    expect(either(p.cost) && either(p.offset) && either(p.outage) && either(p.requirement) && either(p.margin), name, "kinds of the parameters");
     for (i = 0; i < count; i++)
         wrong += !either(rows[i].price) || !either(rows[i].block);
     expect(wrong == 0 && untouched(count), name, "kinds of the rows, and the entries past them");
@@ -85,4 +85,7 @@ void reading(const char *folder)
     expect(is_value(rows[0].price, OZP_MISSING), "no-price-in-row-0.book", "missing price");
     p = read_into(book, read_book(folder, "missing-cost.book", book), ENTRIES).parameters;
     expect(is_value(p.cost, OZP_MISSING) && has(p.offset, 73000), "missing-cost.book", "missing cost");
+    expect(is_value(p.margin, OZP_MISSING), "missing-cost.book", "no margin");
+    p = read_into(book, read_book(folder, "margin-0-in-2022.book", book), ENTRIES).parameters;
+    expect(p.year == 2022 && has(p.margin, 0), "margin-0-in-2022.book", "a margin of 0 is a margin");
 }

@@ -39,6 +39,11 @@ def books():
     yield HERE / "curve-sets-the-price.book", book([offer(71, 0, 9_000)], offset=0, outage=0)
     # a delivery year with a 29 February in it
     yield HERE / "year-of-366-days.book", book(FOUR, year=2027)
+    # finished auctions, whose curve goes by the reserve margin: one of zero is a margin
+    yield HERE / "margin-of-15-percent-in-2024.book", book(FOUR, year=2024, margin=1_500)
+    yield HERE / "margin-of-zero-in-2022.book", book(FOUR, year=2022, offset=0, margin=0)
+    yield HERE / "margin-missing-in-2025.book", book(FOUR, year=2025)
+    yield HERE / "margin-given-in-2026.book", book(FOUR, margin=0)
     # the other refusals
     yield HERE / "refused-1.book", book([])[:-1]
     yield HERE / "refused-2.book", damaged(book(FOUR), [(512 + 40, b"\1")])

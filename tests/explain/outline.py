@@ -1,12 +1,13 @@
 """A book and its clearing, from the outline and apart from the library: what page.py writes about.
 
     form_fault(book)            the refusal by 1 to 3, or None
-    parameters(book)            year, [C, E, F, R] with None where one is missing, number of offers
+    parameters(book)            year, [C, E, F, R, margin] with None where one is missing, number of offers
+    by_margin(year)             whether the year's curve goes by the reserve margin
     offers_in(book, count)      the offers
     fault(year, values, offers) the refusal by 4 to 8, or None
     days(year)                  the days from 1 June of the year to 31 May of the next
     extra_day(year)             the calendar year of the 29 February between them, or None
-    Market(values, offers)      the curve, the total, the price, and what each row clears
+    Market(year, values, offers) the curve, the total, the price, and what each row clears
 """
 import collections
 import datetime
@@ -34,16 +35,21 @@ def form_fault(book):
         if struct.unpack("<HH", block[508:]) != sums:
             return 2, k
     head, offers, marks = cut[0], struct.unpack_from("<H", cut[0], 24)[0], cut[0][26]
-    absent = all(marks >> bit & 1 or not any(head[8 + 4 * bit:12 + 4 * bit]) for bit in range(4))
+    absent = all(marks >> bit & 1 or not any(head[at:at + 4]) for bit, at in enumerate((8, 12, 16, 20, 28)))
     counted = offers <= 600 and len(cut) == 1 + (offers + 14) // 15
-    if head[:6] != b"RPMB\1\0" or not counted or marks > 15 or not absent or any(head[27:508]):
+    if head[:6] != b"RPMB\1\0" or not counted or marks > 31 or not absent or head[27] or any(head[32:508]):
         return 3, 0
     return next(((3, k) for k, block in enumerate(cut) if k and not layout_holds(k, block, offers)), None)
 
 
 def parameters(book):
-    year, *values, offers, marks = struct.unpack_from("<HIIIIHB", book, 6)
+    year, c, e, f, r, offers, marks, margin = struct.unpack_from("<HIIIIHBxI", book, 6)
+    values = c, e, f, r, margin
     return year, [value if marks >> bit & 1 else None for bit, value in enumerate(values)], offers
+
+
+def by_margin(year):
+    return 2022 <= year <= 2025
 
 
 def offers_in(book, count):
@@ -59,11 +65,12 @@ def in_range(o):
 
 
 def fault(year, values, offers):
-    for field, value in enumerate(values, 2):
+    for field, value in enumerate(values if by_margin(year) else values[:4], 2):
         if value is None:
             return 4, field
-    c, e, f, r = values
-    tests = [2026 <= year <= 2099, 1 <= c <= 1000000, e <= c, f <= 5000, 1000 <= r <= 2000000]
+    c, e, f, r, margin = values
+    tests = [2022 <= year <= 2099, 1 <= c <= 1000000, e <= c, f <= 5000, 1000 <= r <= 2000000,
+             margin is None or year <= 2025 and margin <= 5000]
     if not all(tests):
         return 5, 1 + tests.index(False)
     seen = set()
@@ -101,12 +108,16 @@ def largest(top, test):
 
 
 class Market:
-    def __init__(self, values, offers):
-        c, e, f, r = values
+    def __init__(self, year, values, offers):
+        c, e, f, r, margin = values
         self.offers = offers
-        amounts = max(4 * c, 7 * (c - e)), 3 * (c - e)
+        # what the net cost is taken by in point 1, in quarters, and what the requirement is taken by and over
+        first, self.parts, self.whole = (
+            (6, [10000 + margin + part for part in (-120, 190, 780)], 10000 + margin) if by_margin(year) else
+            (7, [9900, 10150, 10450], 10000))
+        amounts = max(4 * c, first * (c - e)), 3 * (c - e)
         self.p1, self.p2 = (nearest(quarters * 1000000, 1460 * (10000 - f)) for quarters in amounts)
-        self.q1, self.q2, self.q3 = (nearest(r * weight, 10000) for weight in (9900, 10150, 10450))
+        self.q1, self.q2, self.q3 = (nearest(r * part, self.whole) for part in self.parts)
         self.x = largest(self.q3, lambda k: self.supply(self.curve(k)) >= k)
         self.more = min((o.price for o in offers if self.supply(o.price) > self.x), default=None)
         reached = [self.curve(self.x)] + ([] if self.more is None else [self.more])

@@ -8,22 +8,41 @@ from words import dollars, megawatts, offer_lines, parts, price
 
 
 def stated(year, values, count):
-    c, e, f, r = values
+    c, e, f, r, margin = values
 
     def said(value, text):
         return "missing, which is not zero" if value is None else text(value) + (", entered as zero" if value == 0 else "")
 
     def yearly(value):
         return f"{value} dollars per MW-year"
+
+    def percent(value):
+        return parts(value, 2, " percent (", " hundredths)")
+    with_margin = said(margin, percent) if margin is not None or outline.by_margin(year) else \
+        "none, and the year's curve goes without one"
     yield f"""The book states
   delivery year          {year}
   C, cost of new entry   {said(c, yearly)}
   E, revenue offset      {said(e, yearly)}
-  F, outage rate EFORd   {said(f, lambda v: parts(v, 2, ' percent (', ' hundredths)'))}
+  F, outage rate EFORd   {said(f, percent)}
   R, requirement         {said(r, lambda v: parts(v, 1, ' MW (', ' tenths)'))}
+  reserve margin         {with_margin}
   offers                 {count}
 
 """
+
+
+def edition(m, year):
+    first, second, last = (f"R x {part} / {m.whole}" for part in m.parts)
+    early = outline.by_margin(year)
+    yield f"""The curve is that of delivery years {"2022 to 2025, by the margin" if early else "from 2026 on"}
+  point 1: {"1.5" if early else "1.75"} times C - E, or C where that is more, at {first}
+  point 2: 0.75 times C - E, at {second}
+  point 3: zero, at {last}
+"""
+    if early:
+        yield f"  {m.whole} is 100 percent and the margin in hundredths; 1.2 less, 1.9 and 7.8 more\n"
+    yield "\n"
 
 
 def bought(m):
@@ -104,7 +123,8 @@ def pieces(book):
     if wrong:
         yield from refusals.of_values(*wrong, offers)
         return
-    market = outline.Market(values, offers)
+    market = outline.Market(year, values, offers)
+    yield from edition(market, year)
     yield from bought(market)
     yield from set_price(market)
     for row, o in enumerate(offers):

@@ -1,8 +1,10 @@
 """Refusals as the page says them: number, place, and what is wrong there."""
 from words import megawatts, offer_lines, price
 
-FIELDS = ["", "the delivery year", "C, the cost of new entry,", "E, the revenue offset,", "F, the outage rate,", "R, the requirement,"]
-RANGES = ["", "2026 to 2099", "1 to 1000000", "0 to C", "0.00 to 50.00 percent", "100.0 to 200000.0 MW"]
+FIELDS = ["", "the delivery year", "C, the cost of new entry,", "E, the revenue offset,", "F, the outage rate,", "R, the requirement,",
+          "the reserve margin"]
+RANGES = ["", "2022 to 2099", "1 to 1000000", "0 to C", "0.00 to 50.00 percent", "100.0 to 200000.0 MW",
+          "0.00 to 50.00 percent in 2022 to 2025; later years have none"]
 READ = 65536
 
 

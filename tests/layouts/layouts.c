@@ -33,7 +33,8 @@ static void values(void)
     FIELD(ozp_parameters, cost);
     FIELD(ozp_parameters, offset);
     FIELD(ozp_parameters, outage);
-    LAST(ozp_parameters, requirement);
+    FIELD(ozp_parameters, requirement);
+    LAST(ozp_parameters, margin);
     STRUCT(ozp_row);
     FIELD(ozp_row, stamp);
     FIELD(ozp_row, resource);

@@ -47,13 +47,13 @@ def lent(due, book, filled):
 
 def decoded(book, count):
     """The values of a book of so many rows, from its bytes, as the outline places them."""
-    year, *values, _, marks = struct.unpack_from("<H4IHB", book, 6)
+    year, *values, _, marks, margin = struct.unpack_from("<H4IHBxI", book, 6)
     offers = []
     for n in range(count):
         at = 512 * (1 + n // 15) + 28 + 32 * (n % 15)
         resource, seller, price, quantity, block, stamp, own = struct.unpack_from("<5IQB", book, at)
         offers.append(ozpinduru.Offer(resource, seller, price if own & 1 else None, quantity, block if own & 2 else None, stamp))
-    given = [value if marks >> bit & 1 else None for bit, value in enumerate(values)]
+    given = [value if marks >> bit & 1 else None for bit, value in enumerate([*values, margin])]
     return ozpinduru.Book(ozpinduru.Parameters(year, *given), offers)
 
 

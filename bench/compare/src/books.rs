@@ -1,6 +1,6 @@
 //! The books that are measured.
 
-use oracle::book::Offer;
+use oracle::book::{Offer, Parameters};
 use oracle::make::{book, offer, reference};
 
 /// The first of a day's time stamps, in milliseconds.
@@ -22,6 +22,7 @@ pub fn cases() -> Vec<Case> {
         case("600 all tied", written(&tied()), 0.7),
         case("600 tied, equal quantities", written(&equal()), 0.7),
         case("600 tied, equal, stamps rising", written(&rising()), 0.7),
+        case("600, distinct prices, a year by the margin", by_margin(&distinct()), 0.5),
         case("600, the last row repeats a resource", written(&last_repeats()), 1.0),
         case("600, resources equal in their low 16 bits", written(&low_halves_equal()), 1.0),
         case("600, resources equal in their high 16 bits", written(&high_halves_equal()), 1.0),
@@ -39,6 +40,11 @@ pub fn cases() -> Vec<Case> {
 
 fn written(offers: &[Offer]) -> Vec<u8> {
     book(&reference(), offers)
+}
+
+/// The same in a delivery year whose curve goes by the reserve margin.
+fn by_margin(offers: &[Offer]) -> Vec<u8> {
+    book(&Parameters { year: 2024, margin: Some(1_500), ..reference() }, offers)
 }
 
 /// Six hundred offers in no order of price, stamp or resource, each with a block. With the reference parameters their sum is

@@ -17,10 +17,11 @@ const PARAMETERS: Parameters = Parameters {
     offset: Some(DollarsPerMwYear(73_000)),
     outage: Some(2_000),
     requirement: Some(Tenths(10_000)),
+    margin: None,
 };
 
 const PLAIN: Given =
-    Given { year: 2026, cost: Some(146_000), offset: Some(73_000), outage: Some(2_000), requirement: Some(10_000) };
+    Given { year: 2026, cost: Some(146_000), offset: Some(73_000), outage: Some(2_000), requirement: Some(10_000), margin: None };
 
 const fn given(number: u32) -> Value {
     Value { kind: raw::GIVEN, number }
@@ -32,6 +33,7 @@ const HELD: raw::Parameters = raw::Parameters {
     offset: given(73_000),
     outage: given(2_000),
     requirement: given(10_000),
+    margin: Value { kind: raw::MISSING, number: 0 },
 };
 
 /// A line for each part of the curve.

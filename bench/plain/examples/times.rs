@@ -7,8 +7,8 @@ use std::time::{Duration, Instant};
 
 /// Six hundred offers, most of which clear: at distinct prices, or tied at one price with spare tenths to give.
 fn books() -> [(&'static str, Vec<u8>); 5] {
-    let largest =
-        Parameters { year: 2099, cost: Some(1_000_000), offset: Some(0), outage: Some(5_000), requirement: Some(2_000_000) };
+    let [cost, offset, outage, requirement] = [1_000_000, 0, 5_000, 2_000_000].map(Some);
+    let largest = Parameters { year: 2099, cost, offset, outage, requirement, margin: None };
     let mixed = |at: u32| at * 7_919 % 601;
     let distinct = |scale: u32, price: u32| -> Vec<Offer> {
         (1..=600)

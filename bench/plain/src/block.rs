@@ -15,9 +15,10 @@ pub fn check_holds(block: &[u8; BLOCK]) -> bool {
 pub fn head_laid_out(head: &[u8; BLOCK]) -> bool {
     let marks = head[26];
     head.starts_with(b"RPMB\x01\x00")
-        && marks < 16
-        && (0..4).all(|field| marks >> field & 1 == 1 || u32_at(head, 8 + 4 * field) == 0)
-        && zero(&head[27..508])
+        && marks < 32
+        && [8, 12, 16, 20, 28].iter().enumerate().all(|(bit, &at)| marks >> bit & 1 == 1 || u32_at(head, at) == 0)
+        && head[27] == 0
+        && zero(&head[32..508])
 }
 
 pub fn zero(bytes: &[u8]) -> bool {

@@ -1,24 +1,14 @@
 //! Reading: length, checks, layout, and the limits of the values.
 
 use crate::block::{check_holds, head_laid_out, u16_at, u32_at, zero, BLOCK};
-use crate::curve::Curve;
 use crate::manner::Manner;
-use crate::{Fault, Given};
+use crate::parameters::Parameters;
+use crate::Fault;
 use std::collections::HashSet;
 
 const PLACE: usize = 32;
 const PLACES: usize = 15;
 const MOST_OFFERS: usize = 600;
-
-/// The values of block 0; those that are not marked in `marks` are 0.
-pub struct Parameters {
-    pub year: u16,
-    cost: u32,
-    offset: u32,
-    outage: u32,
-    requirement: u32,
-    marks: u8,
-}
 
 /// The values of a place. A flexible offer's block is 0, which changes nothing in what is committed.
 pub struct Offer {
@@ -75,48 +65,6 @@ impl Book {
             }
         }
         Ok(())
-    }
-}
-
-impl Parameters {
-    /// Parameters that are handed in, and in no book.
-    pub fn given(given: Given) -> Parameters {
-        let values = [given.cost, given.offset, given.outage, given.requirement];
-        let marks = (0..4).map(|at| u8::from(values[at].is_some()) << at).sum();
-        let [cost, offset, outage, requirement] = values.map(Option::unwrap_or_default);
-        Parameters { year: given.year, cost, offset, outage, requirement, marks }
-    }
-
-    fn read(head: &[u8; BLOCK]) -> Parameters {
-        Parameters {
-            year: u16_at(head, 6),
-            cost: u32_at(head, 8),
-            offset: u32_at(head, 12),
-            outage: u32_at(head, 16),
-            requirement: u32_at(head, 20),
-            marks: head[26],
-        }
-    }
-
-    /// The curve, or refusals 4 and 5.
-    pub fn curve(&self) -> Result<Curve, Fault> {
-        if self.marks != 0b1111 {
-            return Err((4, self.marks.trailing_ones() + 2));
-        }
-        let field = if !(2026..=2099).contains(&self.year) {
-            1
-        } else if !(1..=1_000_000).contains(&self.cost) {
-            2
-        } else if self.offset > self.cost {
-            3
-        } else if self.outage > 5_000 {
-            4
-        } else if !(1_000..=2_000_000).contains(&self.requirement) {
-            5
-        } else {
-            return Ok(Curve::new(self.cost, self.offset, self.outage, self.requirement));
-        };
-        Err((5, field))
     }
 }
 

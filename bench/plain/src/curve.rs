@@ -17,15 +17,32 @@ pub struct ExactPrice {
     pub divisor: u32,
 }
 
+/// What the net cost is taken by at the first point, in quarters, and the requirement at each point, over a whole.
+pub struct Rule {
+    first: u64,
+    parts: [u64; 3],
+    whole: u64,
+}
+
+impl Rule {
+    pub const FROM_2026: Rule = Rule { first: 7, parts: [9_900, 10_150, 10_450], whole: 10_000 };
+
+    /// The years 2022 to 2025.
+    pub fn by_margin(margin: u32) -> Rule {
+        let whole = 10_000 + u64::from(margin);
+        Rule { first: 6, parts: [whole - 120, whole + 190, whole + 780], whole }
+    }
+}
+
 impl Curve {
-    pub fn new(cost: u32, offset: u32, outage: u32, requirement: u32) -> Curve {
+    pub fn new(cost: u32, offset: u32, outage: u32, requirement: u32, rule: Rule) -> Curve {
         let (cost, net, requirement) = (u64::from(cost), u64::from(cost - offset), u64::from(requirement));
         let days = 1_460 * (10_000 - u64::from(outage));
         Curve {
-            q1: nearest(requirement * 990, 1_000),
-            q2: nearest(requirement * 1_015, 1_000),
-            q3: nearest(requirement * 1_045, 1_000),
-            p1: nearest((4 * cost).max(7 * net) * 1_000_000, days),
+            q1: nearest(requirement * rule.parts[0], rule.whole),
+            q2: nearest(requirement * rule.parts[1], rule.whole),
+            q3: nearest(requirement * rule.parts[2], rule.whole),
+            p1: nearest((4 * cost).max(rule.first * net) * 1_000_000, days),
             p2: nearest(3 * net * 1_000_000, days),
         }
     }

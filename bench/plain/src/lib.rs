@@ -12,12 +12,14 @@ mod block;
 mod book;
 mod curve;
 mod manner;
+mod parameters;
 
 pub use curve::ExactPrice;
 
 use auction::Auction;
-use book::{Book, Offer, Parameters};
+use book::{Book, Offer};
 use manner::{Manner, Tuned, Usual};
+use parameters::Parameters;
 
 /// A refusal's number and place.
 type Fault = (u32, u32);
@@ -48,7 +50,7 @@ pub fn clear_tuned(bytes: &[u8], cleared: &mut [u32], committed: &mut [u32]) -> 
     outcome(try_clear::<Tuned>(bytes, cleared, committed))
 }
 
-/// The parameters of a region as a caller has them, each of the last four given or missing.
+/// The parameters of a region as a caller has them, each but the year given or missing.
 #[derive(Clone, Copy, Debug)]
 pub struct Given {
     pub year: u16,
@@ -56,6 +58,7 @@ pub struct Given {
     pub offset: Option<u32>,
     pub outage: Option<u32>,
     pub requirement: Option<u32>,
+    pub margin: Option<u32>,
 }
 
 /// The price at a quantity of the curve that parameters make, between cents; none past the last point.

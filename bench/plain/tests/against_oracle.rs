@@ -50,8 +50,8 @@ fn random_calls() {
 fn random_prices() {
     for (seed, book) in seeds().filter_map(|seed| Some((seed, oracle::book::read(&call(seed).book).ok()?))) {
         let p = book.parameters;
-        let Parameters { cost, offset, outage, requirement, .. } = p;
-        let given = Given { year: p.year.try_into().unwrap(), cost, offset, outage, requirement };
+        let Parameters { cost, offset, outage, requirement, margin, .. } = p;
+        let given = Given { year: p.year.try_into().unwrap(), cost, offset, outage, requirement, margin };
         if let Some(fault) = limits::missing(&p).or_else(|| limits::out_of_range(&p)) {
             assert_eq!(price_at(given, 0), Err(fault), "seed {seed}");
             continue;

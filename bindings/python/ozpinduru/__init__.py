@@ -11,7 +11,7 @@ from ._curve import Curve, ExactPrice, curve, price_at
 from ._refusal import Fault, Refusal, report, version, words
 from .picture import chart
 
-__version__ = "0.4.0"
+__version__ = "0.5.0"
 __all__ = [
     "Book", "Clearing", "Columns", "Comparison", "Curve", "ExactPrice", "Fault", "Offer", "Parameters", "Quote", "Refusal",
     "RefusedBook", "Row",

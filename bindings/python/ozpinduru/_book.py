@@ -14,12 +14,14 @@ from ._refusal import Refusal
 
 @dataclass(frozen=True)
 class Parameters:
-    """The parameters of a region: dollars per MW-year, hundredths of a percent and tenths of a megawatt. None is missing."""
+    """The parameters of a region: dollars per MW-year, hundredths of a percent and tenths of a megawatt. None is missing. A year
+    from 2022 to 2025 needs a reserve margin, and no other year has one."""
     year: int
     cost: Optional[int]
     offset: Optional[int]
     outage: Optional[int]
     requirement: Optional[int]
+    margin: Optional[int] = None
 
 
 @dataclass(frozen=True)
@@ -79,12 +81,12 @@ def _lent(number: Optional[int]) -> Any:
 def lent(p: Parameters) -> Any:
     """Parameters on their way in."""
     year = p.year if 0 <= index(p.year) <= NO_VALUE else NO_VALUE
-    return _library.Parameters(year, _lent(p.cost), _lent(p.offset), _lent(p.outage), _lent(p.requirement))
+    return _library.Parameters(year, *map(_lent, (p.cost, p.offset, p.outage, p.requirement, p.margin)))
 
 
 def read(book: bytes) -> Book:
     """What a book says, for every book that passes 1 to 3, with its values in range or not; else raises Refusal."""
     contents, rows = rows_read(held(book))
     p = contents.parameters
-    parameters = Parameters(p.year, _given(p.cost), _given(p.offset), _given(p.outage), _given(p.requirement))
+    parameters = Parameters(p.year, *map(_given, (p.cost, p.offset, p.outage, p.requirement, p.margin)))
     return Book(parameters, [_offer(*row) for row in _ROW.iter_unpack(rows)])

@@ -6,7 +6,7 @@ import os
 import pathlib
 from typing import Any
 
-VERSION = (0, 4, 0)
+VERSION = (0, 5, 0)
 
 # kinds
 GIVEN, NONE, REFUSED, MISSING, DIFFERS = 1, 2, 3, 4, 5
@@ -24,7 +24,7 @@ def _struct(name: str, *fields: tuple[type, str]) -> Any:
 
 _word, _amount, _size = ctypes.c_uint32, ctypes.c_uint64, ctypes.c_size_t
 Value = _struct("ozp_value", (_word, "kind number"))
-Parameters = _struct("ozp_parameters", (_word, "year"), (Value, "cost offset outage requirement"))
+Parameters = _struct("ozp_parameters", (_word, "year"), (Value, "cost offset outage requirement margin"))
 Row = _struct("ozp_row", (_amount, "stamp"), (_word, "resource seller quantity"), (Value, "price block"))
 Answer = _struct("ozp_answer", (_amount, "make_whole daily year"), (_word, "kind total price rows number place"))
 CurvePoints = _struct("ozp_curve_points", (_word, "kind p1 p2 p3 q1 q2 q3 number place"))

@@ -8,7 +8,8 @@ import operator
 from . import _library
 from ._library import GIVEN, REPORT_BYTES, WORDS_BYTES, held, library
 
-FIELDS = ("delivery year", "cost of new entry", "revenue offset", "forced outage rate", "reliability requirement")
+FIELDS = ("delivery year", "cost of new entry", "revenue offset", "forced outage rate", "reliability requirement",
+          "reserve margin")
 
 
 class Fault(enum.IntEnum):
@@ -26,7 +27,8 @@ class Fault(enum.IntEnum):
 
 
 class Refusal(Exception):
-    """A book or parameters are refused: `number` says why, `place` at which block, row or field (year, C, E, F, R from 1)."""
+    """A book or parameters are refused: `number` says why, `place` at which block, row or field (year, C, E, F, R, margin
+    from 1)."""
     def __init__(self, number: int, place: int) -> None:
         super().__init__(number, place)
         self.number, self.place = number, place

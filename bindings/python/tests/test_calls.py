@@ -87,7 +87,8 @@ class Reads(unittest.TestCase):
     def test_missing_and_out_of_range(self):
         self.assertEqual([read(book([offer(1, price)])).offers[0].price for price in (0, None, 2**32 - 1)], [0, None, 2**32 - 1])
         missing = dict(year=65_535, cost=None, offset=0, outage=None, requirement=2**32 - 1)
-        self.assertEqual(read(book([], **missing)).parameters, Parameters(**missing))
+        self.assertEqual(read(book([], **missing)).parameters, Parameters(**missing, margin=None))
+        self.assertEqual([read(book([], margin=margin)).parameters.margin for margin in (0, None, 2**32 - 1)], [0, None, 2**32 - 1])
         extreme = Offer(2**32 - 1, 2**32 - 1, None, 2**32 - 1, 0, 2**64 - 1)
         self.assertEqual(read(book([offer(2**32 - 1, None, 2**32 - 1, 0, 2**64 - 1, 2**32 - 1)])).offers, [extreme])
 
@@ -168,7 +169,7 @@ class Words(unittest.TestCase):
             self.assertRaisesRegex(ValueError, f"^no refusal has number {number}$", words, number)
         self.assertEqual(report(book([])), "cleared 0\nprice -\ndaily 0\nyear 0\n")
         self.assertEqual(report(reference()).splitlines()[4], "13 33 50 637500")
-        self.assertEqual(version(), "0.4.0")
+        self.assertEqual(version(), "0.5.0")
 
     def test_names_and_words_are_the_header_s(self):
         header = (ROOT / "include" / "ozpinduru.h").read_text()

@@ -14,6 +14,7 @@ OZP = [sys.executable, "-m", "ozpinduru"]
 REFERENCE = str(ROOT / "examples" / "reference.book")
 UNPRICED = str(VERDICTS / "data" / "no-price-in-row-0.book")
 NOTHING = str(VERDICTS / "data" / "no-offers-length-512.book")
+MISSED = str(VERDICTS / "data" / "margin-missing-in-2022.book")
 GIVEN = "curve --year 2026 --cost 146000 --offset 73000 --outage 2000 --requirement 10000".split()
 SETTING = {**os.environ, "PYTHONPATH": str(PYTHON)}
 
@@ -50,6 +51,12 @@ class Says(unittest.TestCase):
                          (0, f"{REFERENCE}: {points}; at 1,000.0 MW: $375.00 per MW-day\n"))
         self.assertTrue(ozp(*GIVEN, "--at", "10151")[1].endswith("; at 1,015.1 MW: $186.87 per MW-day and 150/300 of a cent\n"))
         self.assertIn("past the last point", ozp(*GIVEN, "--at", "10451")[1])
+        early = [word.replace("2026", "2024") for word in GIVEN]
+        self.assertEqual(ozp(*early, "--margin", "1500")[:2],
+                         (0, points.replace("990.0", "989.6").replace("1,015.0", "1,016.5").replace("1,045.0", "1,067.8") + "\n"))
+        self.assertEqual(ozp(*early)[:2], (1, "refused 4 at field 6 (reserve margin): a parameter is missing\n"))
+        self.assertEqual(ozp(*GIVEN, "--margin", "0")[:2],
+                         (1, "refused 5 at field 6 (reserve margin): a parameter is out of range\n"))
         self.assertEqual(ozp(*GIVEN[:-2])[:2],
                          (1, "refused 4 at field 5 (reliability requirement): a parameter is missing\n"))
 
@@ -96,6 +103,8 @@ class Says(unittest.TestCase):
                          {"resource": 13, "cleared": 33, "committed": 50, "make_whole": 637_500})
         self.assertEqual([json.loads(ozp(*GIVEN, "--json", "--at", k)[1])["price_at"] for k in ("10151", "10451")],
                          [{"cents": 18_687, "remainder": 150, "divisor": 300}, None])
+        refused = json.loads(ozp("curve", "--json", MISSED)[1])["refused"]
+        self.assertEqual((refused["number"], refused["place"], refused["where"]), (4, 6, "field 6 (reserve margin)"))
 
     def test_example(self):
         done = subprocess.run([sys.executable, str(PYTHON / "example.py")], capture_output=True, text=True, check=True)

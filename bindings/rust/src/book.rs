@@ -19,6 +19,8 @@ pub struct Parameters {
     pub outage: Option<u32>,
     /// The reliability requirement R.
     pub requirement: Option<Tenths>,
+    /// The installed reserve margin, in hundredths of a percent: a year from 2022 to 2025 needs one, and no other year has any.
+    pub margin: Option<u32>,
 }
 
 /// The values of an offer, as its own bytes hold them.
@@ -83,6 +85,7 @@ impl From<raw::Parameters> for Parameters {
             offset: given(p.offset).map(DollarsPerMwYear),
             outage: given(p.outage),
             requirement: given(p.requirement).map(Tenths),
+            margin: given(p.margin),
         }
     }
 }
@@ -95,6 +98,7 @@ impl From<Parameters> for raw::Parameters {
             offset: lent(p.offset.map(|dollars| dollars.0)),
             outage: lent(p.outage),
             requirement: lent(p.requirement.map(|tenths| tenths.0)),
+            margin: lent(p.margin),
         }
     }
 }

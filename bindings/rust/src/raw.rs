@@ -49,8 +49,8 @@ macro_rules! structs {
 structs! {
     /// A value that may be missing.
     Value { kind: u32, number: u32 }
-    /// The year, C, E, F and R.
-    Parameters { year: u32, cost: Value, offset: Value, outage: Value, requirement: Value }
+    /// The year, C, E, F, R and the reserve margin.
+    Parameters { year: u32, cost: Value, offset: Value, outage: Value, requirement: Value, margin: Value }
     /// A row of a book.
     Row { stamp: u64, resource: u32, seller: u32, quantity: u32, price: Value, block: Value }
     /// What a book clears.

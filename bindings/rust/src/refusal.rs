@@ -42,6 +42,7 @@ pub enum Field {
     Offset = 3,
     Outage = 4,
     Requirement = 5,
+    Margin = 6,
 }
 
 /// A result buffer.
@@ -52,7 +53,7 @@ pub enum Buffer {
     Committed = 2,
 }
 
-const FIELDS: [Field; 5] = [Field::Year, Field::Cost, Field::Offset, Field::Outage, Field::Requirement];
+const FIELDS: [Field; 6] = [Field::Year, Field::Cost, Field::Offset, Field::Outage, Field::Requirement, Field::Margin];
 const BUFFERS: [Buffer; 2] = [Buffer::Cleared, Buffer::Committed];
 
 impl Field {
@@ -120,6 +121,7 @@ impl fmt::Display for Field {
             Field::Offset => "revenue offset",
             Field::Outage => "forced outage rate",
             Field::Requirement => "reliability requirement",
+            Field::Margin => "reserve margin",
         })
     }
 }

@@ -13,7 +13,10 @@ const REFERENCE: Parameters = Parameters {
     offset: Some(DollarsPerMwYear(73_000)),
     outage: Some(2_000),
     requirement: Some(Tenths(10_000)),
+    margin: None,
 };
+
+const MISSING: &str = "refused 4 at field 6 (reserve margin): a parameter is missing";
 
 fn book() -> Vec<u8> {
     fs::read(Path::new(env!("CARGO_MANIFEST_DIR")).join("../../examples/reference.book")).unwrap()
@@ -88,6 +91,17 @@ fn the_curve_has_its_points_and_prices() {
 }
 
 #[test]
+fn the_year_selects_the_curve() {
+    for (margin, due) in [(0, [9_880, 10_190, 10_780]), (1_500, [9_896, 10_165, 10_678]), (5_000, [9_920, 10_127, 10_520])] {
+        let points = curve(&Parameters { year: 2025, margin: Some(margin), ..REFERENCE }).unwrap().points;
+        assert_eq!(points.map(|point| (point.quantity.0, point.price.0)), [(due[0], 50_000), (due[1], 18_750), (due[2], 0)]);
+    }
+    assert_eq!(read(&verdict("margin-5000-in-2022.book")).unwrap().parameters.margin, Some(5_000));
+    assert_eq!(read(&verdict("margin-missing-in-2022.book")).unwrap().parameters.margin, None);
+    assert_eq!(clear(&verdict("margin-missing-in-2022.book")).unwrap_err().to_string(), MISSING);
+}
+
+#[test]
 fn a_delivery_year_has_the_february_of_the_next_year() {
     let years = [0, 2026, 2027, 2028, 2099, 2100, 2399, u32::MAX];
     assert_eq!(years.map(days), [365, 365, 366, 365, 365, 365, 366, 366]);
@@ -99,13 +113,16 @@ fn a_delivery_year_has_the_february_of_the_next_year() {
 fn parameters_missing_or_out_of_range_have_no_curve() {
     let dollars = |number| Some(DollarsPerMwYear(number));
     for (parameters, refusal) in [
-        (Parameters { year: 2025, cost: dollars(0), ..REFERENCE }, Refusal::ParameterOutOfRange(Field::Year)),
+        (Parameters { year: 2021, cost: dollars(0), ..REFERENCE }, Refusal::ParameterOutOfRange(Field::Year)),
         (Parameters { cost: dollars(0), ..REFERENCE }, Refusal::ParameterOutOfRange(Field::Cost)),
         (Parameters { offset: dollars(146_001), ..REFERENCE }, Refusal::ParameterOutOfRange(Field::Offset)),
         (Parameters { outage: Some(5_001), ..REFERENCE }, Refusal::ParameterOutOfRange(Field::Outage)),
         (Parameters { requirement: Some(Tenths(999)), ..REFERENCE }, Refusal::ParameterOutOfRange(Field::Requirement)),
         (Parameters { year: 1999, cost: None, outage: None, ..REFERENCE }, Refusal::MissingParameter(Field::Cost)),
         (Parameters { requirement: None, ..REFERENCE }, Refusal::MissingParameter(Field::Requirement)),
+        (Parameters { year: 2025, ..REFERENCE }, Refusal::MissingParameter(Field::Margin)),
+        (Parameters { year: 2025, margin: Some(5_001), ..REFERENCE }, Refusal::ParameterOutOfRange(Field::Margin)),
+        (Parameters { margin: Some(0), ..REFERENCE }, Refusal::ParameterOutOfRange(Field::Margin)),
     ] {
         assert_eq!((curve(&parameters), price_at(&parameters, Tenths(0))), (Err(refusal), Err(refusal)));
     }

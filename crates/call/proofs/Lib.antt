@@ -4,6 +4,7 @@ pub mod Outcomes
 pub mod Decided
 pub mod Refusing
 pub mod Demands
+pub mod Editions
 pub mod Nothing
 pub mod Blocks
 pub mod OneMore

@@ -79,30 +79,33 @@ parameters-same p other e =
     let e₂ = next-field (sameValue (p .cost) (other .cost)) _ 2 (λ z. omega arith) (e₁ .1) in
     let e₃ = next-field (sameValue (p .offset) (other .offset)) _ 3 (λ z. omega arith) (e₂ .1) in
     let e₄ = next-field (sameValue (p .outage) (other .outage)) _ 4 (λ z. omega arith) (e₃ .1) in
-    let e₅ = next-field (sameValue (p .requirement) (other .requirement)) 0 5 (λ z. omega arith) (e₄ .1) in
+    let e₅ = next-field (sameValue (p .requirement) (other .requirement)) _ 5 (λ z. omega arith) (e₄ .1) in
+    let e₆ = next-field (sameValue (p .margin) (other .margin)) 0 6 (λ z. omega arith) (e₅ .1) in
     λ i. record {
       year = eqb-true (p .year) (other .year) (e₁ .0) i;
       cost = value-same (p .cost) (other .cost) (e₂ .0) i;
       offset = value-same (p .offset) (other .offset) (e₃ .0) i;
       outage = value-same (p .outage) (other .outage) (e₄ .0) i;
       requirement = value-same (p .requirement) (other .requirement) (e₅ .0) i;
+      margin = value-same (p .margin) (other .margin) (e₆ .0) i;
     }
 
 -- of parameters beside themselves no field differs
 pub parameters-self : (p : Parameters) → fieldApart p p ≡ 0
 unfolding fieldApart
 parameters-self p =
-    rw (eqb-self (p .year), value-self (p .cost), value-self (p .offset), value-self (p .outage), value-self (p .requirement))
+    rw (eqb-self (p .year), value-self (p .cost), value-self (p .offset), value-self (p .outage), value-self (p .requirement), value-self (p .margin))
 
-module _ (p other : Parameters) (last later third given : ℕ)
-    (f : last ≡ cond (sameValue (p .requirement) (other .requirement)) 0 5)
+module _ (p other : Parameters) (margin last later third given : ℕ)
+    (m : margin ≡ cond (sameValue (p .margin) (other .margin)) 0 6)
+    (f : last ≡ cond (sameValue (p .requirement) (other .requirement)) margin 5)
     (g : later ≡ cond (sameValue (p .outage) (other .outage)) last 4)
     (h : third ≡ cond (sameValue (p .offset) (other .offset)) later 3)
     (k : given ≡ cond (sameValue (p .cost) (other .cost)) third 2) where
   -- where the year is the same, what comes after it
   pub field-later : p .year ≡ other .year → given ≡ fieldApart p other
   unfolding fieldApart
-  field-later e = k ∙ rw (h, g, f, eq-eqb (p .year) (other .year) e)
+  field-later e = k ∙ rw (h, g, f, m, eq-eqb (p .year) (other .year) e)
 
 -- where it differs, the year
 pub field-year : (p other : Parameters) → (p .year ≡ other .year → ⊥) → 1 ≡ fieldApart p other

@@ -25,14 +25,16 @@ sameOffer o other =
     && (sameValue (o .block) (other .block)
     && eqb (o .stamp) (other .stamp)))))
 
--- the first field in which parameters differ: 1 delivery year, 2 C, 3 E, 4 F, 5 R; 0 where they are the same
+-- the first field in which parameters differ: 1 delivery year, 2 C, 3 E, 4 F, 5 R, 6 the reserve margin; 0 where they are the same
 unfoldable pub fieldApart : Parameters → Parameters → ℕ
 fieldApart p other =
     cond (eqb (p .year) (other .year))
     (cond (sameValue (p .cost) (other .cost))
     (cond (sameValue (p .offset) (other .offset))
     (cond (sameValue (p .outage) (other .outage))
-    (cond (sameValue (p .requirement) (other .requirement)) 0 5)
+    (cond (sameValue (p .requirement) (other .requirement))
+    (cond (sameValue (p .margin) (other .margin)) 0 6)
+    5)
     4)
     3)
     2)

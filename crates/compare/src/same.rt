@@ -60,7 +60,7 @@ fn apart(field: u32, v: Value, w: Value, next: u32) -> u32
     if same_value(v, w) { next } else { field }
 }
 
-// The first field in which two sets of parameters differ, from 1 to 5; 0 where they are the same.
+// The first field in which two sets of parameters differ, from 1 to 6; 0 where they are the same.
 pub(crate) fn field_apart(p: Parameters, other: Parameters) -> u32
     ensures { λ r. ⌜ r ≡ fieldApart p other ⌝ }
 {
@@ -68,11 +68,14 @@ pub(crate) fn field_apart(p: Parameters, other: Parameters) -> u32
     let offset = p.offset;
     let outage = p.outage;
     let requirement = p.requirement;
+    let margin = p.margin;
     let other_cost = other.cost;
     let other_offset = other.offset;
     let other_outage = other.outage;
     let other_requirement = other.requirement;
-    let last = apart(5, requirement, other_requirement, 0);
+    let other_margin = other.margin;
+    let margin_apart = apart(6, margin, other_margin, 0);
+    let last = apart(5, requirement, other_requirement, margin_apart);
     let later = apart(
         3,
         offset,

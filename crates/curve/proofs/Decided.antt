@@ -8,7 +8,6 @@ use Rattle.curve.specs.declared.exact.ExactCurvePrice.{ExactCurvePrice}
 use Rattle.curve.specs.declared.Terms.{Terms}
 use Rattle.curve.specs.declared.Weights.{Weights}
 use Rattle.curve.proofs.points.Reads as points
-use Rattle.curve.proofs.points_2026.Reads as points-2026
 use Rattle.curve.proofs.tenth_price.Reads as tenth-price
 use Rattle.curve.proofs.exact.price_at.Reads as price-at
 
@@ -17,11 +16,6 @@ pub points-decided : (w : Weights) (whole : ℕ) (t : Terms) (r s : Curve)
     → points.Post tt (w, (whole, (t, tt))) r (w, (whole, (t, tt)))
     → points.Post tt (w, (whole, (t, tt))) s (w, (whole, (t, tt))) → r ≡ s
 points-decided w whole t r s e f = e .0 ∙ sym (f .0)
-
--- the points of a year from 2026 on, by the contract of `points_2026`
-pub points-2026-decided : (t : Terms) (r s : Curve)
-    → points-2026.Post tt (t, tt) r (t, tt) → points-2026.Post tt (t, tt) s (t, tt) → r ≡ s
-points-2026-decided t r s e f = e .0 ∙ sym (f .0)
 
 -- the price at a quantity up to Q3, by the contract of `tenth_price`
 pub tenth-price-decided : (c : Curve) (k : ℕ) (r s : CentsPerMwDay)

@@ -15,7 +15,7 @@ use Rattle.curve.specs.declared.Terms.{Terms}
 use Rattle.curve.specs.declared.Weights.{Weights}
 use Rattle.curve.specs.Points.{netCost, firstPrice, secondPrice, quantityAt, curveOf}
 use Rattle.curve.specs.inner.Points.{InRange}
-use Rattle.curve.specs.Shape.{Shaped, weights2026, curve2026}
+use Rattle.curve.specs.Shape.{Shaped, weights2022, weights2026}
 use Rattle.curve.specs.inner.Shape.{Usable}
 
 -- two parts of a requirement of 1,000 tenths or more, apart by a thousandth of the whole or more, are different tenths
@@ -77,11 +77,6 @@ module _ (w : Weights) (whole : ℕ) (t : Terms) (u : Usable w whole) (h : InRan
 pub y2026-usable : Usable weights2026 10000
 y2026-usable = omega arith
 
--- so every curve from 2026 on goes right and never up
-pub curve2026-shaped : (t : Terms) → InRange t → Shaped (curve2026 t)
-curve2026-shaped t h = curve-shaped weights2026 10000 t y2026-usable h
-
--- the weights that the tariff sets for 2022 to 2025 are usable too, with any reserve margin up to 50 percent
-pub y2022-usable : (margin : ℕ) → margin ≤ 5000
-    → Usable (record { first = 6; second = 3; under = 120; over = 190; last = 780 }) (10000 + margin)
+-- and so are those of 2022, with any reserve margin up to 50 percent
+pub y2022-usable : (margin : ℕ) → margin ≤ 5000 → Usable weights2022 (10000 + margin)
 y2022-usable margin l = omega arith

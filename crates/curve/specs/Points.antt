@@ -1,7 +1,8 @@
 -- The three points of the requirement curve, as a function of the weights of an edition of the tariff.
 --
 -- Costs are whole dollars per MW-year, prices cents per MW-day, quantities tenths of a megawatt, rates hundredths of a
--- percent. `whole` is 100 percent of the requirement in hundredths of a percent.
+-- percent. `whole` is what stands for the requirement itself, in hundredths of a percent: 100 percent, or 100 percent and the
+-- reserve margin.
 -- Assumes nothing.
 use Prim.Native.Nat.{ℕ, _+_, _-_, _*_, max}
 use Rattle.laws.specs.Nearest.{nearest}

@@ -1,10 +1,8 @@
--- What every curve is, and the weights of 2026.
+-- What every curve is, and the weights of the two editions.
 -- Assumes nothing.
 use Prim.Native.Nat.{_≤_, _<_}
-use Rattle.curve.specs.declared.Terms.{Terms}
 use Rattle.curve.specs.declared.Weights.{Weights}
 use Rattle.curve.specs.declared.Curve.{Curve}
-use Rattle.curve.specs.Points.{curveOf}
 
 -- a curve whose points go right and never up
 pub record Shaped (c : Curve) : Type 0 where
@@ -19,10 +17,10 @@ pub record Shaped (c : Curve) : Type 0 where
   -- no quantity is over 220,000 megawatts
   pub quantity-most : c .q3 ≤ 2200000
 
+-- delivery years 2022 to 2025: 1.5 and 0.75 times the net cost; 1.2 percent under `whole`, 1.9 and 7.8 percent over it
+abbrev pub weights2022 : Weights
+weights2022 = record { first = 6; second = 3; under = 120; over = 190; last = 780 }
+
 -- delivery years from 2026 on: 1.75 and 0.75 times the net cost; 99, 101.5 and 104.5 percent
 abbrev pub weights2026 : Weights
 weights2026 = record { first = 7; second = 3; under = 100; over = 150; last = 450 }
-
--- the curve of a delivery year from 2026 on
-abbrev pub curve2026 : Terms → Curve
-curve2026 t = curveOf weights2026 10000 t

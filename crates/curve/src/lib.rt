@@ -9,7 +9,7 @@ ghost use Prim.Native.Nat.{_*_, _≤_, _<_};
 ghost use Rattle.laws.specs.Nearest.{nearest};
 ghost use Rattle.curve.specs.Points.{netCost, firstPrice, curveOf};
 ghost use Rattle.curve.specs.inner.Points.{InRange};
-ghost use Rattle.curve.specs.Shape.{Shaped, curve2026};
+ghost use Rattle.curve.specs.Shape.{Shaped};
 ghost use Rattle.curve.specs.inner.Shape.{Usable};
 ghost use Rattle.curve.specs.Price.{tenthPrice};
 
@@ -34,6 +34,16 @@ pub struct Weights {
 }
 
 impl Weights {
+    // Delivery years 2022 to 2025: 1.5 and 0.75 times the net cost; 1.2 percent under 100 percent and the reserve margin, 1.9
+    // and 7.8 percent over it.
+    pub const Y2022: Weights = Weights {
+        first: 6,
+        second: 3,
+        under: 120,
+        over: 190,
+        last: 780,
+    };
+
     // Delivery years from 2026 on: 1.75 and 0.75 times the net cost; 99, 101.5 and 104.5 percent.
     pub const Y2026: Weights = Weights {
         first: 7,
@@ -98,7 +108,7 @@ fn first_price(w: Weights, t: Terms) -> CentsPerMwDay
     }
 }
 
-// The curve of a region by the weights of an edition, `whole` being 100 percent in hundredths of a percent.
+// The curve of a region by the weights of an edition; `whole` stands for the requirement, in hundredths of a percent.
 pub fn points(w: Weights, whole: u32, t: Terms) -> Curve
     requires { ⌜ Usable w whole × InRange t ⌝ }
     ensures { λ r. ⌜ (r ≡ curveOf w whole t) × Shaped r ⌝ }
@@ -110,14 +120,6 @@ pub fn points(w: Weights, whole: u32, t: Terms) -> Curve
         q2: quantity(t.requirement, whole + w.over, whole),
         q3: quantity(t.requirement, whole + w.last, whole),
     }
-}
-
-// The curve of a region in a delivery year from 2026 on.
-pub fn points_2026(t: Terms) -> Curve
-    requires { ⌜ InRange t ⌝ }
-    ensures { λ r. ⌜ (r ≡ curve2026 t) × Shaped r ⌝ }
-{
-    points(Weights::Y2026, WHOLE, t)
 }
 
 // The price at a quantity up to Q3, in whole cents.

@@ -12,6 +12,7 @@ use call::clear;
 use input::read_input;
 use libc::STDERR_FILENO;
 use libc::STDIN_FILENO;
+use page::edition::say_edition;
 use page::stated::say_stated;
 use page::totals::say_daily;
 use page::totals::say_year;
@@ -24,6 +25,14 @@ use workings::read::head_of;
 fn explain_head(book: &[u8]) -> bool {
     if let Head::Stated(p, offers) = head_of(book) {
         return say_stated(p, offers);
+    }
+    true
+}
+
+// Which edition of the curve the year selects.
+fn explain_edition(book: &[u8]) -> bool {
+    if let Head::Stated(p, _) = head_of(book) {
+        return say_edition(p);
     }
     true
 }
@@ -48,7 +57,8 @@ fn explain(book: &[u8]) -> bool {
         Answer::Refused(number, place) => explain_refusal(book, number, place),
         Answer::Cleared(c) => {
             let price = c.price;
-            explain_market(book, price)
+            explain_edition(book)
+                && explain_market(book, price)
                 && explain_rows(book, price, &cleared, &committed)
                 && explain_totals(book, c)
         }

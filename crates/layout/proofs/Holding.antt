@@ -61,7 +61,7 @@ count-holds s blocks e =
 pub head-holds : (s : List ℕ) (blocks : ℕ) → headHolds s blocks ≡ true → CountHolds blocks (offersIn s)
 unfolding headHolds
 head-holds s blocks e =
-    let rest : Bool = headMarksHold s && blank s 27 481 in
+    let rest : Bool = headMarksHold s && (blank s 27 1 && blank s 32 476) in
     let from-count : Bool = countFits s blocks && rest in
     let from-edition : Bool = eqb (u16At s 4) 1 && from-count in
     count-holds s blocks

@@ -17,13 +17,15 @@ rpmb = 82 ∷ 80 ∷ 77 ∷ 66 ∷ []
 unfoldable pub countFits : List ℕ → ℕ → Bool
 countFits s blocks = leb (offersIn s) 600 && eqb blocks (1 + blocksFor (offersIn s))
 
--- bits 0 to 3 of the marks say that C, E, F, R are given, the other bits are zero, and a value not given has zero bytes
+-- bits 0 to 4 of the marks say that C, E, F, R and the margin are given, the other bits are zero, and a value not given has
+-- zero bytes
 unfoldable pub headMarksHold : List ℕ → Bool
 headMarksHold s =
     let absent : ℕ → ℕ → Bool = λ bit at. absentIsZero (marked (byte s 26) bit) (u32At s at) in
-    ltb (byte s 26) 16 && (absent 0 8 && (absent 1 12 && (absent 2 16 && absent 3 20)))
+    ltb (byte s 26) 32 && (absent 0 8 && (absent 1 12 && (absent 2 16 && (absent 3 20 && absent 4 28))))
 
--- block 0 of a book of so many blocks: the letters, edition 1, the count, the marks, and zero from byte 27 to 507
+-- block 0 of a book of so many blocks: the letters, edition 1, the count, the marks, and zero in byte 27 and from byte 32 to 507
 unfoldable pub headHolds : List ℕ → ℕ → Bool
 headHolds s blocks =
-    opensWith s rpmb && (eqb (u16At s 4) 1 && (countFits s blocks && (headMarksHold s && blank s 27 481)))
+    opensWith s rpmb
+    && (eqb (u16At s 4) 1 && (countFits s blocks && (headMarksHold s && (blank s 27 1 && blank s 32 476))))

@@ -30,7 +30,7 @@ fn head_marks_hold(s: &[u8]) -> bool
     ensures { λ r. ⌜ r ≡ headMarksHold (now (s .entry)) ⌝ }
 {
     let marks = s[26];
-    if 16 <= marks {
+    if 32 <= marks {
         return false;
     }
     if !absent_holds(s, 8, marks, 1) {
@@ -42,7 +42,10 @@ fn head_marks_hold(s: &[u8]) -> bool
     if !absent_holds(s, 16, marks, 4) {
         return false;
     }
-    absent_holds(s, 20, marks, 8)
+    if !absent_holds(s, 20, marks, 8) {
+        return false;
+    }
+    absent_holds(s, 28, marks, 16)
 }
 
 // Whether the part is laid out as block 0 of a book of so many blocks.
@@ -62,5 +65,8 @@ pub(crate) fn head_holds(s: &[u8], blocks: usize) -> bool
     if !head_marks_hold(s) {
         return false;
     }
-    is_blank(s, 27, 481)
+    if !is_blank(s, 27, 1) {
+        return false;
+    }
+    is_blank(s, 32, 476)
 }

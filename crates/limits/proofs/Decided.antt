@@ -1,8 +1,8 @@
 -- The contracts of the limits leave one answer: any two that a contract allows for the same arguments coincide, wherever the
 -- bytes and the resource numbers lie.
 --
--- In order: 4 by the marks and in a block 0, numbers within limits, 5, 4 and 5 of parameters outside a book, 6 and 7 of an
--- offer, 8.
+-- In order: the years that go by the margin, 4 by the marks and in a block 0, numbers within limits, 5, 4 and 5 of parameters
+-- outside a book, 6 and 7 of an offer, 8.
 -- Assumes nothing.
 use mathlib.Core.Path.{_≡_, sym, ap, _∙_}
 use mathlib.Core.Bool.{Bool}
@@ -18,6 +18,7 @@ use Rattle.values.specs.declared.head.Parameters.{Parameters}
 use Rattle.values.specs.declared.place.Offer.{Offer}
 use Rattle.limits.specs.Parameters.{missingFault}
 use Rattle.limits.specs.inner.Rows.{withRepeats}
+use Rattle.limits.proofs.parameters.by_margin.Reads as by-margin
 use Rattle.limits.proofs.parameters.missing.Reads as missing
 use Rattle.limits.proofs.parameters.missing_in.Reads as missing-in
 use Rattle.limits.proofs.parameters.within.Reads as within
@@ -27,10 +28,15 @@ use Rattle.limits.proofs.given.parameters_verdict.Reads as parameters-v
 use Rattle.limits.proofs.offers.offer_fault.Reads as offer-fault
 use Rattle.limits.proofs.repeated.with_repeats.Reads as with-repeats
 
+-- whether a year's curve goes by the margin, by the contract of `by_margin`
+pub by-margin-decided : (year : ℕ) (r s : Bool)
+    → by-margin.Post tt (year, tt) r (year, tt) → by-margin.Post tt (year, tt) s (year, tt) → r ≡ s
+by-margin-decided year r s e f = e ∙ sym f
+
 -- 4, by the contract of `missing`
-pub missing-decided : (marks : ℕ) (r s : Verdict)
-    → missing.Post tt (marks, tt) r (marks, tt) → missing.Post tt (marks, tt) s (marks, tt) → r ≡ s
-missing-decided marks r s e f = e ∙ sym f
+pub missing-decided : (year marks : ℕ) (r s : Verdict)
+    → missing.Post tt (year, (marks, tt)) r (year, (marks, tt)) → missing.Post tt (year, (marks, tt)) s (year, (marks, tt)) → r ≡ s
+missing-decided year marks r s e f = e ∙ sym f
 
 -- 4 of a block 0, by the contract of `missing_in`
 pub missing-in-decided : (κs : Lfts 1) (block other : RefT (List ℕ)) (r s : Verdict)

@@ -5,4 +5,5 @@ pub mod Lowest
 pub mod Rows
 pub mod Passing
 pub mod PassingRows
+pub mod Margins
 pub mod Decided

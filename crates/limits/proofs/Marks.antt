@@ -14,13 +14,14 @@ use borrow.Author.Tests.{eqb-true}
 use Rattle.laws.specs.Sum.{every}
 use Rattle.laws.proofs.Cases.{and-left, and-right}
 use Rattle.laws.proofs.Everys.{every-at}
+use Rattle.block.specs.Bytes.{u16At}
 use Rattle.values.specs.Values.{marked, valueOf}
 use Rattle.values.specs.Head.{parametersOf}
 use Rattle.values.specs.Refusals.{missingParameter, unless}
 use Rattle.values.specs.declared.Verdict.{Verdict}
 use Rattle.values.specs.declared.Verdict.the-variants.{Passed, Refused}
-use Rattle.limits.specs.Parameters.{fieldFault, missingFault}
-use Rattle.limits.specs.inner.Parameters.{missingMarks}
+use Rattle.limits.specs.Parameters.{byMargin, fieldFault, missingFault}
+use Rattle.limits.specs.inner.Parameters.{valuesNeeded, missingMarks}
 
 -- ---- two verdicts
 
@@ -39,18 +40,24 @@ same-path (Refused m p) (Refused n q) e =
 
 -- ---- the lowest unset mark
 
--- what a number of set marks below the lowest unset one says
-abbrev pub atGap : ℕ → Verdict
-atGap gap = cond (ltb gap 4) (missingParameter (gap + 2)) Passed
+-- what a number of set marks below the lowest unset one says, where so many values are needed
+abbrev pub atGap : ℕ → ℕ → Verdict
+atGap needed gap = cond (ltb gap needed) (missingParameter (gap + 2)) Passed
 
-all-marks : every (λ marks. same (atGap (trailingZeros 8 (255 - marks))) (missingMarks marks)) 256 ≡ true
+-- by the marks, with the margin or without
+abbrev byGap : Bool → ℕ → Verdict
+byGap withMargin marks = atGap (valuesNeeded withMargin) (trailingZeros 8 (255 - marks))
+
+all-marks : (withMargin : Bool) → every (λ marks. same (byGap withMargin marks) (missingMarks withMargin marks)) 256 ≡ true
 unfolding every trailingZeros missingMarks marked
-all-marks = refl
+all-marks true = refl
+all-marks false = refl
 
--- Trailing zeros of the inverted marks, plus two, give the first missing field.
-pub gap-missing : (marks : ℕ) → marks < 256 → atGap (trailingZeros 8 (255 - marks)) ≡ missingMarks marks
-gap-missing marks l =
-    same-path (atGap (trailingZeros 8 (255 - marks))) (missingMarks marks) (every-at _ 256 marks all-marks l)
+-- Trailing zeros of the inverted marks, plus two, give the first missing field, where it is needed.
+pub gap-missing : (withMargin : Bool) (needed marks : ℕ) → needed ≡ valuesNeeded withMargin → marks < 256
+    → atGap needed (trailingZeros 8 (255 - marks)) ≡ missingMarks withMargin marks
+gap-missing withMargin needed marks e l =
+    rw e (same-path (byGap withMargin marks) (missingMarks withMargin marks) (every-at _ 256 marks (all-marks withMargin) l))
 
 -- ---- the parameters of a block 0
 
@@ -58,7 +65,8 @@ fieldFault-valueOf : (field : ℕ) (mark : Bool) (number : ℕ) → fieldFault f
 fieldFault-valueOf field true number = refl
 fieldFault-valueOf field false number = refl
 
--- The marks of a block 0 tell which of its parameters is the first that is missing.
-pub marks-missing : (s : List ℕ) → missingMarks (getD s 26 0) ≡ missingFault (parametersOf s)
+-- The year and the marks of a block 0 tell which of its parameters is the first that is missing.
+pub marks-missing : (s : List ℕ) (year : ℕ) → year ≡ u16At s 6
+    → missingMarks (byMargin year) (getD s 26 0) ≡ missingFault (parametersOf s)
 unfolding missingMarks missingFault parametersOf
-marks-missing s = simp fieldFault-valueOf
+marks-missing s year e = rw e (simp fieldFault-valueOf)

@@ -3,13 +3,13 @@
 use mathlib.Core.Path.{_≡_}
 use Prim.Native.Nat.{ℕ, _≤_}
 use Rattle.values.specs.Values.{held}
-use Rattle.values.specs.declared.Value.the-variants.{Given}
+use Rattle.values.specs.declared.Value.the-variants.{Given, Missing}
 use Rattle.values.specs.declared.head.Parameters.{Parameters}
 use Rattle.values.specs.declared.place.Offer.{Offer}
 
--- Parameters that clearing accepts: each is given and within its range.
+-- Parameters that clearing accepts: each that the year needs is given, and all are within their ranges.
 pub record Ranged (p : Parameters) : Type 0 where
-  pub year-from : 2026 ≤ p .year
+  pub year-from : 2022 ≤ p .year
   pub year-to : p .year ≤ 2099
   pub cost-given : p .cost ≡ Given (held (p .cost))
   pub cost-from : 1 ≤ held (p .cost)
@@ -21,6 +21,11 @@ pub record Ranged (p : Parameters) : Type 0 where
   pub requirement-given : p .requirement ≡ Given (held (p .requirement))
   pub requirement-from : 1000 ≤ held (p .requirement)
   pub requirement-to : held (p .requirement) ≤ 2000000
+  -- up to 2025 there is a margin, of 50 percent at most
+  pub margin-given : p .year ≤ 2025 → p .margin ≡ Given (held (p .margin))
+  pub margin-to : p .year ≤ 2025 → held (p .margin) ≤ 5000
+  -- and from 2026 on there is none
+  pub margin-none : 2026 ≤ p .year → p .margin ≡ Missing
 
 -- An offer of a sound book: the values that it gives are within their ranges. With no minimum block it is flexible.
 pub record SoundOffer (o : Offer) : Type 0 where

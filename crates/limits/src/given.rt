@@ -1,11 +1,33 @@
 // Refusals 4 and 5 on parameters that stand in no book: what is missing is told by the values and not by marks.
+use crate::parameters::by_margin;
 use crate::parameters::parameter_fault;
 use values::Value;
 use values::Verdict;
 use values::head::Parameters;
 ghost use mathlib.Core.Path.{_≡_};
-ghost use Rattle.limits.specs.Parameters.{missingFault};
+ghost use Rattle.limits.specs.Parameters.{fieldFault, marginFault, missingFault};
 ghost use Rattle.limits.specs.Given.{parametersFault};
+
+// 4 of a field: its value is missing.
+fn field_fault(field: u32, v: Value) -> Verdict
+    ensures { λ r. ⌜ r ≡ fieldFault field v ⌝ }
+{
+    match v {
+        Value::Given(_) => Verdict::Passed,
+        Value::Missing => Verdict::Refused(4, field),
+    }
+}
+
+// 4 of the margin: it is missing in a year whose curve goes by it.
+fn margin_fault(year: u32, margin: Value) -> Verdict
+    ensures { λ r. ⌜ r ≡ marginFault year margin ⌝ }
+{
+    if by_margin(year) {
+        field_fault(6, margin)
+    } else {
+        Verdict::Passed
+    }
+}
 
 // 4: the first field whose value is missing.
 fn missing_value(p: Parameters) -> Verdict
@@ -27,7 +49,8 @@ fn missing_value(p: Parameters) -> Verdict
     if let Value::Missing = requirement {
         return Verdict::Refused(4, 5);
     }
-    Verdict::Passed
+    let margin = p.margin;
+    margin_fault(p.year, margin)
 }
 
 // 4, and then 5 by field.

@@ -4,6 +4,7 @@
 // The forms stand here as they are read, with marks for the numbers (crate `text`). Every zero has its reason beside it, every
 // number of megawatts or dollars the raw units, and no line is longer than 80 letters.
 pub mod bought;
+pub mod edition;
 pub mod refused;
 pub mod rows;
 pub mod stated;

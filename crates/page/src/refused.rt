@@ -41,8 +41,9 @@ pub fn say_parameter(number: u32, field: u32) -> bool {
     say(
         b"refused # at field #
   [|the delivery year|C, the cost of new entry,|E, the revenue offset,|F, the outage rate,\
-    |R, the requirement,] is [missing; a missing value is not zero|out of range]
-  its range is [|2026 to 2099|1 to 1000000|0 to C|0.00 to 50.00 percent|100.0 to 200000.0 MW]
+    |R, the requirement,|the reserve margin] is [missing; a missing value is not zero|out of range]
+  its range is [|2022 to 2099|1 to 1000000|0 to C|0.00 to 50.00 percent|100.0 to 200000.0 MW\
+    |0.00 to 50.00 percent in 2022 to 2025; later years have none]
 ",
         &[
             number as u64,

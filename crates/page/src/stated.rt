@@ -1,8 +1,18 @@
 // What a book states: its parameters, each given or missing.
 use crate::say;
 use crate::words_for;
+use limits::parameters::by_margin;
+use values::Value;
 use values::head::Parameters;
 use values::number_held;
+
+// The words for the margin of a year: 0 where there is none and the year needs none, and else as for other values, from 1 on.
+fn margin_words(year: u32, margin: Value) -> u64 {
+    match margin {
+        Value::Given(number) => { if number == 0 { 2 } else { 3 } }
+        Value::Missing => by_margin(year) as u64,
+    }
+}
 
 // Says the parameters and the number of offers.
 pub fn say_stated(p: Parameters, offers: u32) -> bool {
@@ -10,6 +20,7 @@ pub fn say_stated(p: Parameters, offers: u32) -> bool {
     let offset = p.offset;
     let outage = p.outage;
     let requirement = p.requirement;
+    let margin = p.margin;
     say(
         b"The book states
   delivery year          #
@@ -21,6 +32,8 @@ pub fn say_stated(p: Parameters, offers: u32) -> bool {
     |0.00 percent (0 hundredths), entered as zero|$ percent (# hundredths)]
   R, requirement         [missing, which is not zero\
     |0.0 MW (0 tenths), entered as zero|~ MW (# tenths)]
+  reserve margin         [none, and the year's curve goes without one|missing, which is not zero\
+    |0.00 percent (0 hundredths), entered as zero|$ percent (# hundredths)]
   offers                 #
 
 ",
@@ -34,6 +47,8 @@ pub fn say_stated(p: Parameters, offers: u32) -> bool {
             number_held(outage) as u64,
             words_for(requirement),
             number_held(requirement) as u64,
+            margin_words(p.year, margin),
+            number_held(margin) as u64,
             offers as u64,
         ],
     )

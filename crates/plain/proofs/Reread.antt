@@ -35,6 +35,7 @@ parameters-again p rows =
       offset = value-again (p .offset) i;
       outage = value-again (p .outage) i;
       requirement = value-again (p .requirement) i;
+      margin = value-again (p .margin) i;
     }
 
 -- values that go out alike are the same

@@ -21,4 +21,5 @@ parametersIn p =
       offset = valueIn (p .offset);
       outage = valueIn (p .outage);
       requirement = valueIn (p .requirement);
+      margin = valueIn (p .margin);
     }

@@ -58,6 +58,7 @@ contentsOut p rows =
             offset = valueOut (p .offset);
             outage = valueOut (p .outage);
             requirement = valueOut (p .requirement);
+            margin = valueOut (p .margin);
           };
     }
 
@@ -72,7 +73,8 @@ contentsRefused number place =
       rows = noValue;
       number = number;
       place = place;
-      parameters = record { year = noValue; cost = noneOut; offset = noneOut; outage = noneOut; requirement = noneOut };
+      parameters =
+          record { year = noValue; cost = noneOut; offset = noneOut; outage = noneOut; requirement = noneOut; margin = noneOut };
     }
 
 -- 1 to 3, and then 9 where the rows do not all have an entry

@@ -28,11 +28,13 @@ pub fn parameters_in(p: OzpParameters) -> Parameters
     let offset = value_in(p.offset);
     let outage = value_in(p.outage);
     let requirement = value_in(p.requirement);
+    let margin = value_in(p.margin);
     Parameters {
         year: p.year,
         cost,
         offset,
         outage,
         requirement,
+        margin,
     }
 }

@@ -63,12 +63,14 @@ fn contents_out(p: Parameters, rows: u32) -> OzpContents
     let offset = p.offset;
     let outage = p.outage;
     let requirement = p.requirement;
+    let margin = p.margin;
     let parameters = OzpParameters {
         year: p.year,
         cost: value_out(cost),
         offset: value_out(offset),
         outage: value_out(outage),
         requirement: value_out(requirement),
+        margin: value_out(margin),
     };
     OzpContents {
         kind: 1,
@@ -93,6 +95,7 @@ fn contents_refused(number: u32, place: u32) -> OzpContents
         offset: none,
         outage: none,
         requirement: none,
+        margin: none,
     };
     OzpContents {
         kind: 3,

@@ -23,6 +23,7 @@ pub struct OzpParameters {
     pub offset: OzpValue,
     pub outage: OzpValue,
     pub requirement: OzpValue,
+    pub margin: OzpValue,
 }
 
 // What a call answers. Quantities are tenths of a megawatt, the price is in cents per MW-day, amounts are mills; `rows` is the

@@ -4,17 +4,19 @@
 -- each row clears.
 -- Assumes nothing.
 use mathlib.Core.Path.{_≡_, refl}
+use Prim.Native.Nat.{ℕ}
 use mathlib.Core.List.{[], _∷_}
 use mathlib.Core.Option.{none, some}
+use Rattle.values.specs.declared.Value.the-variants.{Given}
 use Rattle.curve.specs.declared.CurvePrice.the-variants.{Price}
-use Rattle.reference.specs.Book.{curveBy, prices, quantities, reference, examplePrice, _at_, outcome}
+use Rattle.reference.specs.Book.{curveIn, curveBy, prices, quantities, reference, reference2025, examplePrice, _at_, outcome}
 
 -- P1 50,000, P2 18,750; Q1 9,900, Q2 10,150, Q3 10,450
 pub reference-prices : prices reference ≡ (50000, 18750)
-reference-prices = unfold curveBy in refl
+reference-prices = unfold curveIn in refl
 
 pub reference-quantities : quantities reference ≡ (9900, 10150, 10450)
-reference-quantities = unfold curveBy in refl
+reference-quantities = unfold curveIn in refl
 
 -- curve at 9,900: 50,000; at 10,000: 37,500; at 10,151: 18,687; at 10,450: 0
 pub at-first-point : examplePrice 9900 ≡ Price (record { 0 = 50000 })
@@ -31,10 +33,27 @@ at-last-point = unfold examplePrice in refl
 
 -- E 0: P1 87,500, P2 37,500; E 146,000: P1 50,000, P2 0
 pub offset-none : prices (curveBy 146000 0 2000 10000) ≡ (87500, 37500)
-offset-none = unfold curveBy in refl
+offset-none = unfold curveIn in refl
 
 pub offset-whole : prices (curveBy 146000 146000 2000 10000) ≡ (50000, 0)
-offset-whole = unfold curveBy in refl
+offset-whole = unfold curveIn in refl
+
+-- the same parameters in 2025: with any margin P1 is 50,000, by the gross cost, and P2 18,750; with E 0 P1 is 75,000
+pub reference-2025-prices : (margin : ℕ) → prices (reference2025 margin) ≡ (50000, 18750)
+reference-2025-prices margin = unfold curveIn in refl
+
+pub offset-none-2025 : prices (curveIn 2025 146000 0 2000 10000 (Given 1500)) ≡ (75000, 37500)
+offset-none-2025 = unfold curveIn in refl
+
+-- margin 0: Q1 9,880, Q2 10,190, Q3 10,780; 1,500: 9,896, 10,165, 10,678; 5,000: 9,920, 10,127, 10,520
+pub margin-none-2025 : quantities (reference2025 0) ≡ (9880, 10190, 10780)
+margin-none-2025 = unfold curveIn in refl
+
+pub margin-1500-2025 : quantities (reference2025 1500) ≡ (9896, 10165, 10678)
+margin-1500-2025 = unfold curveIn in refl
+
+pub margin-5000-2025 : quantities (reference2025 5000) ≡ (9920, 10127, 10520)
+margin-5000-2025 = unfold curveIn in refl
 
 -- no offers: X 0, no price
 pub no-offers : outcome [] ≡ (0, none, [])
@@ -63,7 +82,7 @@ uncleared-sets-price = unfold outcome in refl
 
 -- not starred: C 146, E 0, F 2,000 come to 87.5 and 37.5 cents, and R 1,050 to 1,039.5 tenths at 99 percent
 pub half-cent-upward : prices (curveBy 146 0 2000 10000) ≡ (88, 38)
-half-cent-upward = unfold curveBy in refl
+half-cent-upward = unfold curveIn in refl
 
 pub half-tenth-upward : quantities (curveBy 146000 73000 2000 1050) ≡ (1040, 1066, 1097)
-half-tenth-upward = unfold curveBy in refl
+half-tenth-upward = unfold curveIn in refl

@@ -1,6 +1,6 @@
 -- The reference book: its parameters, its curve, and what a few offers clear on it.
 --
--- `curveBy`, `examplePrice` and `outcome` open with all that they are made of, so that a case of them is computed.
+-- `curveIn`, `examplePrice` and `outcome` open with all that they are made of, so that a case of them is computed.
 -- Assumes nothing.
 use Prim.Native.Nat.{ℕ, zero, suc}
 use mathlib.Core.List.{List, [], _∷_}
@@ -17,13 +17,22 @@ use Rattle.curve.specs.declared.Curve.{Curve}
 use Rattle.curve.specs.declared.CurvePrice.{CurvePrice}
 use Rattle.curve.specs.Points.{firstPrice, secondPrice, quantityAt, curveOf}
 use Rattle.curve.specs.Price.{line, tenthPrice, curvePrice, demandOf}
-use Rattle.curve.specs.Shape.{curve2026}
+use Rattle.values.specs.declared.Value.{Value}
+use Rattle.values.specs.declared.Value.the-variants.{Given, Missing}
+use Rattle.limits.specs.Parameters.{byMargin}
+use Rattle.region.specs.Region.{regionCurve}
 
--- the curve of 2026 by a cost of new entry, a revenue offset, an outage rate and a requirement
-unfoldable pub curveBy : ℕ → ℕ → ℕ → ℕ → Curve
-unfolding nearest dailyCents firstPrice secondPrice quantityAt curveOf
-curveBy c e f r =
-    curve2026 (record { cost = record { 0 = c }; offset = record { 0 = e }; outage = f; requirement = r })
+-- the curve that a delivery year selects, by a cost of new entry, a revenue offset, an outage rate, a requirement and a reserve
+-- margin or none
+unfoldable pub curveIn : ℕ → ℕ → ℕ → ℕ → ℕ → Value → Curve
+unfolding nearest dailyCents firstPrice secondPrice quantityAt curveOf byMargin regionCurve
+curveIn year c e f r margin =
+    regionCurve
+    (record { year = year; cost = Given c; offset = Given e; outage = Given f; requirement = Given r; margin = margin })
+
+-- that of 2026, which has no margin
+abbrev pub curveBy : ℕ → ℕ → ℕ → ℕ → Curve
+curveBy c e f r = curveIn 2026 c e f r Missing
 
 -- P1 and P2, in cents, and Q1, Q2 and Q3, in tenths
 abbrev pub prices : Curve → ℕ × ℕ
@@ -36,9 +45,13 @@ quantities c = (c .q1, c .q2, c .q3)
 abbrev pub reference : Curve
 reference = curveBy 146000 73000 2000 10000
 
+-- and the same in 2025, with a margin
+abbrev pub reference2025 : ℕ → Curve
+reference2025 margin = curveIn 2025 146000 73000 2000 10000 (Given margin)
+
 -- what the reference curve says of a quantity
 unfoldable pub examplePrice : ℕ → CurvePrice
-unfolding curveBy line tenthPrice curvePrice
+unfolding curveIn line tenthPrice curvePrice
 examplePrice k = curvePrice reference k
 
 -- a quantity at a price
@@ -64,7 +77,7 @@ byRow f (suc n) = f 0 ∷ byRow (λ i. f (suc i)) n
 
 -- the cleared total, the price or none, and what each row clears, on the reference curve
 unfoldable pub outcome : List (ℕ × ℕ) → ℕ × Option ℕ × List ℕ
-unfolding sumTo sumWhere countWhere largest leastWhere curveBy line tenthPrice supply supplyBelow levelSum
+unfolding sumTo sumWhere countWhere largest leastWhere curveIn line tenthPrice supply supplyBelow levelSum
     clearedTotal nextPrice clearingPrice levelAmount weighted shareDown remainder spareTenths ahead rank cleared
 outcome rows =
     let x = clearedTotal (demandOf reference) (exampleOffers rows) in

@@ -1,7 +1,10 @@
 // The region's requirement curve: the one that its parameters select.
 use curve::Curve;
 use curve::Terms;
-use curve::points_2026;
+use curve::WHOLE;
+use curve::Weights;
+use curve::points;
+use limits::parameters::by_margin;
 use units::DollarsPerMwYear;
 use values::head::Parameters;
 use values::number_held;
@@ -26,10 +29,16 @@ fn terms_of(p: Parameters) -> Terms
     }
 }
 
-// The curve that parameters select, each of them given and within its range.
+// The curve that the year of parameters selects, each that it needs given and within its range.
 pub fn region_curve(p: Parameters) -> Curve
     requires { ⌜ Ranged p ⌝ }
     ensures { λ r. ⌜ (r ≡ regionCurve p) × Shaped r ⌝ }
 {
-    points_2026(terms_of(p))
+    let terms = terms_of(p);
+    if by_margin(p.year) {
+        let margin = p.margin;
+        points(Weights::Y2022, WHOLE + number_held(margin), terms)
+    } else {
+        points(Weights::Y2026, WHOLE, terms)
+    }
 }

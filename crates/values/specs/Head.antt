@@ -1,5 +1,5 @@
--- Block 0: 6-7 delivery year; 8-11 C; 12-15 E; 16-19 F; 20-23 R; 24-25 number of offers; 26 marks, of which bits 0 to 3
--- say that C, E, F, R are given.
+-- Block 0: 6-7 delivery year; 8-11 C; 12-15 E; 16-19 F; 20-23 R; 24-25 number of offers; 26 marks, of which bits 0 to 4
+-- say that C, E, F, R and the margin are given; 28-31 the reserve margin.
 -- Assumes nothing.
 use Prim.Native.Nat.{ℕ}
 use mathlib.Core.List.{List}
@@ -12,7 +12,14 @@ use Rattle.values.specs.declared.head.Parameters.{Parameters}
 unfoldable pub parametersOf : List ℕ → Parameters
 parametersOf s =
     let value : ℕ → ℕ → Value = λ bit at. valueOf (marked (byte s 26) bit) (u32At s at) in
-    record { year = u16At s 6; cost = value 0 8; offset = value 1 12; outage = value 2 16; requirement = value 3 20 }
+    record {
+      year = u16At s 6;
+      cost = value 0 8;
+      offset = value 1 12;
+      outage = value 2 16;
+      requirement = value 3 20;
+      margin = value 4 28;
+    }
 
 -- the number of offers that a block 0 states
 unfoldable pub offersIn : List ℕ → ℕ

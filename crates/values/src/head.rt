@@ -18,6 +18,8 @@ pub struct Parameters {
     pub outage: Value,
     // the reliability requirement, in tenths of a megawatt
     pub requirement: Value,
+    // the installed reserve margin, in hundredths of a percent
+    pub margin: Value,
 }
 
 // The parameters that a block 0 holds.
@@ -32,6 +34,7 @@ pub fn parameters_in(s: &[u8]) -> Parameters
         offset: value_at(s, 12, marks, 2),
         outage: value_at(s, 16, marks, 4),
         requirement: value_at(s, 20, marks, 8),
+        margin: value_at(s, 28, marks, 16),
     }
 }
 

@@ -11,17 +11,26 @@ use ozpinduru::raw::{self, CurvePoints, CurvePrice, Value, NO_VALUE};
 pub fn curve(read: &Result<Book, Fault>, rng: &mut Rng) -> Result<Vec<&'static str>, String> {
     let p = read.as_ref().map_or_else(|_| make::reference(), |book| book.parameters.clone());
     let changed = rng.percent(50);
-    let lent = [p.cost, p.offset, p.outage, p.requirement].map(|number| value(number, changed, rng));
-    let [cost, offset, outage, requirement] = lent;
-    let asked = raw::Parameters { year: p.year, cost, offset, outage, requirement };
-    let [cost, offset, outage, requirement] = lent.map(taken);
-    let p = Parameters { year: p.year, cost, offset, outage, requirement };
+    let year = if changed && rng.percent(20) { rng.between32(2020, 2035) } else { p.year };
+    let lent = [p.cost, p.offset, p.outage, p.requirement, p.margin].map(|number| value(number, changed, rng));
+    let [cost, offset, outage, requirement, margin] = lent;
+    let asked = raw::Parameters { year, cost, offset, outage, requirement, margin };
+    let [cost, offset, outage, requirement, margin] = lent.map(taken);
+    let p = Parameters { year, cost, offset, outage, requirement, margin };
     let odd = lent.iter().any(|value| ![raw::GIVEN, raw::MISSING].contains(&value.kind)).then_some("value of another kind");
-    let mut kinds = match limits::missing(&p).or_else(|| limits::out_of_range(&p)) {
+    let fault = limits::missing(&p).or_else(|| limits::out_of_range(&p));
+    let mut kinds = match fault {
         None => drawn(asked, &p.curve(), rng)?,
         Some(fault) => vec![refused(asked, fault, rng)?],
     };
+    let by_margin = match fault {
+        None => p.by_margin().then_some("curve by a margin"),
+        Some((4, 6)) => Some("curve refused by 4 at the margin"),
+        Some((5, 6)) => Some("by 5 at the margin"),
+        Some(_) => None,
+    };
     kinds.extend(odd);
+    kinds.extend(by_margin);
     Ok(kinds)
 }
 

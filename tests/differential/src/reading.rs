@@ -34,14 +34,15 @@ fn held(at: usize) -> Row {
 
 fn refused((number, place): Fault) -> Contents {
     let none = Value { kind: raw::NONE, number: NO_VALUE };
-    let parameters = raw::Parameters { year: NO_VALUE, cost: none, offset: none, outage: none, requirement: none };
+    let parameters =
+        raw::Parameters { year: NO_VALUE, cost: none, offset: none, outage: none, requirement: none, margin: none };
     Contents { kind: raw::REFUSED, rows: NO_VALUE, number, place, parameters }
 }
 
 fn given(book: &Book) -> Contents {
-    let &Parameters { year, cost, offset, outage, requirement } = &book.parameters;
-    let [cost, offset, outage, requirement] = [cost, offset, outage, requirement].map(value);
-    let parameters = raw::Parameters { year, cost, offset, outage, requirement };
+    let &Parameters { year, cost, offset, outage, requirement, margin } = &book.parameters;
+    let [cost, offset, outage, requirement, margin] = [cost, offset, outage, requirement, margin].map(value);
+    let parameters = raw::Parameters { year, cost, offset, outage, requirement, margin };
     Contents { kind: raw::GIVEN, rows: book.offers.len() as u32, number: NO_VALUE, place: NO_VALUE, parameters }
 }
 

@@ -1,7 +1,7 @@
 //! How many calls of each kind a run meets.
 
 use crate::compare::Compared;
-use oracle::book::{self, Offer};
+use oracle::book::{self, Book, Offer, Parameters};
 use oracle::random::{Call, Kind};
 use oracle::{Clearing, Outcome};
 use std::cmp::Reverse;
@@ -11,14 +11,23 @@ use std::collections::BTreeMap;
 const ENOUGH: u64 = 1_000;
 
 /// The kinds, as they are printed. A call is of one kind of the first line, of one of the second, and of any of the others.
-const KINDS: [&[&str]; 11] = [
+const KINDS: [&[&str]; 13] = [
     &["valid", "faulty", "damaged", "stray"],
     &["not laid out", "no offers", "1 to 15 offers", "16 to 599", "600"],
     &["refused by 1", "by 2", "by 3", "by 4", "by 5", "by 6", "by 7", "by 8", "by 9"],
     &["cleared buffer too short", "committed buffer too short", "buffers kept by a refusal", "buffers longer than the book"],
     &["no price", "price 0", "make-whole", "spares by remainder", "by stamp", "by resource"],
     &["read", "not read", "array too short", "report written", "room too small"],
+    &[
+        "cleared by a margin",
+        "year of no curve",
+        "margin missing",
+        "margin over 5,000",
+        "margin of 0 past 2025",
+        "other past 2025",
+    ],
     &["curve drawn", "curve refused by 4", "curve refused by 5", "value of another kind"],
+    &["curve by a margin", "curve refused by 4 at the margin", "by 5 at the margin"],
     &[
         "price level",
         "on the first line",
@@ -52,14 +61,15 @@ pub struct Tally {
 impl Tally {
     pub fn add(&mut self, call: &Call, compared: &Compared) {
         self.calls += 1;
-        let offers = book::read(&call.book).map(|book| book.offers).ok();
-        let mut kinds = vec![kind(call), size(offers.as_deref())];
+        let read = book::read(&call.book).ok();
+        let mut kinds = vec![kind(call), size(read.as_ref())];
         kinds.extend(&compared.kinds);
+        kinds.extend(read.as_ref().and_then(|book| margin(&book.parameters, &compared.outcome)));
         match &compared.outcome {
             Outcome::Refused { number, place } => refusal(call, *number, *place, &mut kinds),
             Outcome::Cleared(clearing) => {
                 self.cleared += 1;
-                cleared(call, clearing, &offers.unwrap_or_default(), &mut kinds);
+                cleared(call, clearing, &read.map_or_else(Vec::new, |book| book.offers), &mut kinds);
             }
         }
         kinds.into_iter().for_each(|kind| *self.met.entry(kind).or_default() += 1);
@@ -97,13 +107,26 @@ fn kind(call: &Call) -> &'static str {
     }
 }
 
-fn size(offers: Option<&[Offer]>) -> &'static str {
-    match offers.map(<[Offer]>::len) {
+fn size(read: Option<&Book>) -> &'static str {
+    match read.map(|book| book.offers.len()) {
         None => "not laid out",
         Some(0) => "no offers",
         Some(1..=15) => "1 to 15 offers",
         Some(16..=599) => "16 to 599",
         Some(_) => "600",
+    }
+}
+
+/// What came of the year and the margin of a book.
+fn margin(p: &Parameters, outcome: &Outcome) -> Option<&'static str> {
+    match outcome {
+        Outcome::Cleared(_) => p.by_margin().then_some("cleared by a margin"),
+        Outcome::Refused { number: 4, place: 6 } => Some("margin missing"),
+        Outcome::Refused { number: 5, place: 1 } => Some("year of no curve"),
+        Outcome::Refused { number: 5, place: 6 } if p.by_margin() => Some("margin over 5,000"),
+        Outcome::Refused { number: 5, place: 6 } if p.margin == Some(0) => Some("margin of 0 past 2025"),
+        Outcome::Refused { number: 5, place: 6 } => Some("other past 2025"),
+        Outcome::Refused { .. } => None,
     }
 }
 

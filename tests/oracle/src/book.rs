@@ -1,6 +1,6 @@
 //! The book's bytes: length, checks, layout, and the values that stand in them.
 
-use crate::curve::{curve, Point};
+pub use crate::parameters::Parameters;
 
 /// A refusal's number and place.
 pub type Fault = (u32, u32);
@@ -12,26 +12,8 @@ pub const PLACES: usize = 15;
 pub const FIRST_PLACE: usize = 28;
 pub const MOST_OFFERS: usize = 600;
 pub const LONGEST: usize = 20_992;
-
-/// The values of block 0. A value that is not given is `None`, never 0.
-#[derive(Clone, Debug, PartialEq, Eq)]
-pub struct Parameters {
-    pub year: u32,
-    pub cost: Option<u32>,
-    pub offset: Option<u32>,
-    pub outage: Option<u32>,
-    pub requirement: Option<u32>,
-}
-
-impl Parameters {
-    /// The curve of parameters that are all given and in range.
-    pub fn curve(&self) -> [Point; 3] {
-        match (self.cost, self.offset, self.outage, self.requirement) {
-            (Some(cost), Some(offset), Some(outage), Some(requirement)) => curve(cost, offset, outage, requirement),
-            _ => panic!("a parameter is missing"),
-        }
-    }
-}
+/// Where C, E, F, R and the reserve margin stand in block 0, in the order of their marks.
+pub const VALUES_AT: [usize; 5] = [8, 12, 16, 20, 28];
 
 /// The values of one place.
 #[derive(Clone, Debug, PartialEq, Eq)]
@@ -123,9 +105,10 @@ fn head_laid_out(block: &[u8]) -> bool {
     let marks = block[26];
     &block[..4] == b"RPMB"
         && number(block, 4, 2) == 1
-        && marks < 16
-        && zero(&block[27..CHECKED])
-        && (0..4).all(|field| marked(marks, field) || zero(&block[8 + 4 * field as usize..][..4]))
+        && marks < 32
+        && block[27] == 0
+        && zero(&block[32..CHECKED])
+        && VALUES_AT.iter().zip(0..).all(|(&at, bit)| marked(marks, bit) || zero(&block[at..at + 4]))
 }
 
 fn offers_laid_out(block: &[u8], at: usize, used: usize) -> bool {
@@ -144,8 +127,9 @@ fn place_laid_out(place: &[u8]) -> bool {
 }
 
 fn parameters(block: &[u8]) -> Parameters {
-    let given = |field: usize| marked(block[26], field as u32).then(|| number32(block, 8 + 4 * field));
-    Parameters { year: number(block, 6, 2) as u32, cost: given(0), offset: given(1), outage: given(2), requirement: given(3) }
+    let given = |bit: usize| marked(block[26], bit as u32).then(|| number32(block, VALUES_AT[bit]));
+    let [cost, offset, outage, requirement, margin] = [0, 1, 2, 3, 4].map(given);
+    Parameters { year: number(block, 6, 2) as u32, cost, offset, outage, requirement, margin }
 }
 
 fn offer(place: &[u8]) -> Offer {

@@ -34,7 +34,14 @@ pub fn compare(first: &[u8], second: &[u8]) -> Comparison {
 
 /// The first field in which parameters differ.
 fn differing(p: &Parameters, q: &Parameters) -> Option<u32> {
-    let same = [p.year == q.year, p.cost == q.cost, p.offset == q.offset, p.outage == q.outage, p.requirement == q.requirement];
+    let same = [
+        p.year == q.year,
+        p.cost == q.cost,
+        p.offset == q.offset,
+        p.outage == q.outage,
+        p.requirement == q.requirement,
+        p.margin == q.margin,
+    ];
     (1..).zip(same).find(|(_, same)| !same).map(|(field, _)| field)
 }
 

@@ -7,7 +7,8 @@ pub struct Point {
     pub price: u32,
 }
 
-/// The three points, for a cost of new entry, a revenue offset, an EFORd and a reliability requirement in their ranges.
+/// The three points of a delivery year from 2026 on, for a cost of new entry, a revenue offset, an EFORd and a reliability
+/// requirement in their ranges.
 pub fn curve(cost: u32, offset: u32, outage: u32, requirement: u32) -> [Point; 3] {
     let net = u64::from(cost - offset);
     // In quarters of a dollar a year: the greater of C and 1.75 times (C minus E), and 0.75 times (C minus E).
@@ -17,6 +18,21 @@ pub fn curve(cost: u32, offset: u32, outage: u32, requirement: u32) -> [Point; 3
         Point { quantity: per_mille(requirement, 990), price: daily_cents(first, outage) },
         Point { quantity: per_mille(requirement, 1_015), price: daily_cents(second, outage) },
         Point { quantity: per_mille(requirement, 1_045), price: 0 },
+    ]
+}
+
+/// The three points of a delivery year from 2022 to 2025: as above, with 1.5 times the net cost in point 1, and with R times
+/// (100% + margin, less 1.2%, plus 1.9%, plus 7.8%) over (100% + margin), each quantity by itself.
+pub fn curve_by_margin(cost: u32, offset: u32, outage: u32, requirement: u32, margin: u32) -> [Point; 3] {
+    let net = u64::from(cost - offset);
+    let first = (4 * u64::from(cost)).max(6 * net);
+    let second = 3 * net;
+    let over = 10_000 + u64::from(margin);
+    let quantity = |part: u64| nearest(u64::from(requirement) * part, over);
+    [
+        Point { quantity: quantity(over - 120), price: daily_cents(first, outage) },
+        Point { quantity: quantity(over + 190), price: daily_cents(second, outage) },
+        Point { quantity: quantity(over + 780), price: 0 },
     ]
 }
 

@@ -4,21 +4,23 @@ use crate::book::{Fault, Offer, Parameters};
 
 const MOST_COST: u32 = 1_000_000;
 
-/// 4: the first parameter that is missing.
+/// 4: the first parameter that is missing. A reserve margin is missing only in a year whose curve goes by it.
 pub fn missing(p: &Parameters) -> Option<Fault> {
-    let given = [p.cost, p.offset, p.outage, p.requirement];
-    given.iter().position(|value| value.is_none()).map(|at| (4, at as u32 + 2))
+    let [cost, offset, outage, requirement] = [p.cost, p.offset, p.outage, p.requirement].map(|value| value.is_none());
+    let margin = p.margin.is_none() && p.by_margin();
+    [cost, offset, outage, requirement, margin].iter().position(|&missing| missing).map(|at| (4, at as u32 + 2))
 }
 
-/// 5: the first given parameter that is out of range. Where C is missing E may reach 1,000,000.
+/// 5: the first given parameter that is out of range. Where C is missing E may reach 1,000,000. A year past 2025 has no margin.
 pub fn out_of_range(p: &Parameters) -> Option<Fault> {
     let within = |value: Option<u32>, least, most| value.is_none_or(|value| (least..=most).contains(&value));
     let in_range = [
-        within(Some(p.year), 2026, 2099),
+        within(Some(p.year), 2022, 2099),
         within(p.cost, 1, MOST_COST),
         within(p.offset, 0, p.cost.unwrap_or(MOST_COST)),
         within(p.outage, 0, 5_000),
         within(p.requirement, 1_000, 2_000_000),
+        within(p.margin, 0, 5_000) && (p.margin.is_none() || p.year <= 2025),
     ];
     in_range.iter().position(|&fits| !fits).map(|at| (5, at as u32 + 1))
 }

@@ -1,10 +1,11 @@
 //! Writes books, sound or not: values go in as they are given, in or out of range.
 
-use crate::book::{sums, Offer, Parameters, BLOCK, CHECKED, FIRST_PLACE, PLACE, PLACES};
+use crate::book::{sums, Offer, Parameters, BLOCK, CHECKED, FIRST_PLACE, PLACE, PLACES, VALUES_AT};
 
 /// The parameters of the reference book.
 pub fn reference() -> Parameters {
-    Parameters { year: 2026, cost: Some(146_000), offset: Some(73_000), outage: Some(2_000), requirement: Some(10_000) }
+    let [cost, offset, outage, requirement] = [146_000, 73_000, 2_000, 10_000].map(Some);
+    Parameters { year: 2026, cost, offset, outage, requirement, margin: None }
 }
 
 /// A flexible offer.
@@ -42,8 +43,9 @@ fn head(p: &Parameters, offers: usize) -> Vec<u8> {
     put(&mut block, 4, 2, 1);
     put(&mut block, 6, 2, p.year.into());
     put(&mut block, 24, 2, offers as u64);
-    for (field, value) in [p.cost, p.offset, p.outage, p.requirement].into_iter().enumerate() {
-        put_given(&mut block, 8 + 4 * field, value, 26, field);
+    let values = [p.cost, p.offset, p.outage, p.requirement, p.margin];
+    for (bit, (value, at)) in values.into_iter().zip(VALUES_AT).enumerate() {
+        put_given(&mut block, at, value, 26, bit);
     }
     block
 }

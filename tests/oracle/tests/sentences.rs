@@ -59,7 +59,8 @@ fn days_of_the_delivery_year() {
 
 #[test]
 fn first_price_of_zero() {
-    let cheapest = Parameters { cost: Some(1), offset: Some(0), outage: Some(0), requirement: Some(1_000), year: 2099 };
+    let [cost, offset, outage, requirement] = [1, 0, 0, 1_000].map(Some);
+    let cheapest = Parameters { year: 2099, cost, offset, outage, requirement, margin: None };
     let clearing = cleared(&cheapest, &[offer(1, 2_000, 0, 1)]);
     assert_eq!((clearing.total, clearing.price), (1_045, Some(0)));
     assert_eq!(cleared(&cheapest, &[offer(1, 2_000, 1, 1)]).price, None);
@@ -75,8 +76,8 @@ fn printed_refusals() {
 
 #[test]
 fn the_extreme_book() {
-    let most =
-        Parameters { year: 2099, cost: Some(1_000_000), offset: Some(0), outage: Some(5_000), requirement: Some(2_000_000) };
+    let [cost, offset, outage, requirement] = [1_000_000, 0, 5_000, 2_000_000].map(Some);
+    let most = Parameters { year: 2099, cost, offset, outage, requirement, margin: None };
     let offers: Vec<Offer> = (1..=600).map(|at| with_block(offer(at, 200_000, 958_904, 1), 200_000)).collect();
     let clearing = cleared(&most, &offers);
     assert_eq!((clearing.total, clearing.price), (1_980_000, Some(958_904)));
@@ -102,7 +103,7 @@ fn short_buffers_come_last() {
 
 #[test]
 fn missing_values_are_no_fault_of_soundness() {
-    let none = Parameters { year: 2026, cost: None, offset: Some(1_000_000), outage: None, requirement: None };
+    let none = Parameters { year: 2026, cost: None, offset: Some(1_000_000), outage: None, requirement: None, margin: None };
     let unpriced = [Offer { price: None, ..offer(1, 10, 0, 1) }, Offer { price: None, ..offer(2, 10, 0, 1) }];
     assert_eq!(sound(&book(&none, &unpriced)), None);
     assert_eq!(sound(&book(&none, &[unpriced[0].clone(), unpriced[0].clone()])), Some((8, 1)));

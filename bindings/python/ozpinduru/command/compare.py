@@ -19,7 +19,7 @@ from ._books import ANSWERED, REFUSED, UNREADABLE, as_json, opened, shown
 from ._streams import complain, say
 from .._units import dollars, money, sold
 
-_FIELDS = ("year", "cost", "offset", "outage", "requirement")
+_FIELDS = ("year", "cost", "offset", "outage", "requirement", "margin")
 
 
 def arguments(parser: argparse.ArgumentParser) -> None:

@@ -19,6 +19,7 @@ _PARAMETERS = {
     "offset": "revenue offset, dollars per MW-year",
     "outage": "forced outage rate, hundredths of a percent",
     "requirement": "reliability requirement, tenths of a megawatt",
+    "margin": "reserve margin, hundredths of a percent: for 2022 to 2025 only",
 }
 
 

@@ -2,7 +2,7 @@
 
 use super::wrong::faulty;
 use super::{offers_told, valid, Rng};
-use crate::book::{BLOCK, CHECKED, FIRST_PLACE, PLACE, PLACES};
+use crate::book::{BLOCK, CHECKED, FIRST_PLACE, PLACE, PLACES, VALUES_AT};
 use crate::make;
 
 /// A book with its bytes damaged once or twice. Two in three are sealed again, so that the checks no longer tell.
@@ -85,17 +85,29 @@ fn count_wrong(rng: &mut Rng, block: &mut [u8], at: usize) {
     make::put(block, at, 2, wrong);
 }
 
-/// Block 0: marks, the bytes set aside, or a byte that should be zero.
+/// Block 0: marks, the margin with its mark or without, the bytes set aside, or a byte that should be zero.
 fn spoil_head(rng: &mut Rng, block: &mut [u8]) {
-    match rng.draw() % 5 {
+    match rng.draw() % 7 {
         0 => block[26] ^= 1 << rng.index(8),
+        5 => block[26] = rng.between(0, 63) as u8,
+        6 => other_marks(rng, block),
         1 => {
             block[26] |= 16;
-            make::put(block, 28, 4, rng.pick(&[0, 1_500]));
+            make::put(block, 28, 4, rng.pick(&[0, 1_500, 5_001]));
         }
         2 => make::put(block, 28, 4, 1_500),
         3 => make::put(block, 32, 2, rng.pick(&[1, 15, 600])),
         _ => alter(rng, &mut block[27..CHECKED]),
+    }
+}
+
+/// Any five marks; a value that loses its mark loses its bytes.
+fn other_marks(rng: &mut Rng, block: &mut [u8]) {
+    block[26] = rng.between(0, 31) as u8;
+    for (bit, at) in VALUES_AT.into_iter().enumerate() {
+        if block[26] >> bit & 1 == 0 {
+            make::put(block, at, 4, 0);
+        }
     }
 }
 

@@ -20,8 +20,9 @@ pub fn values(rng: &mut Rng) -> (Parameters, Vec<Offer>) {
 }
 
 fn parameters(rng: &mut Rng) -> Parameters {
+    let (year, margin) = year(rng);
     if rng.percent(20) {
-        return make::reference();
+        return Parameters { year, margin, ..make::reference() };
     }
     let cost = match rng.draw() % 6 {
         0 => 1_000_000,
@@ -44,8 +45,18 @@ fn parameters(rng: &mut Rng) -> Parameters {
         3 => 1_050 + 100 * rng.between32(0, 50),
         _ => rng.between32(1_000, 30_000),
     };
-    let year = rng.between32(2026, 2099);
-    Parameters { year, cost: Some(cost), offset: Some(offset), outage: Some(outage), requirement: Some(requirement) }
+    let [cost, offset, outage, requirement] = [cost, offset, outage, requirement].map(Some);
+    Parameters { year, cost, offset, outage, requirement, margin }
+}
+
+/// A delivery year, one in three from 2022 to 2025, and the margin that it has or does not have.
+fn year(rng: &mut Rng) -> (u32, Option<u32>) {
+    let any = rng.between32(0, 5_000);
+    match rng.draw() % 6 {
+        0 | 1 => (rng.between32(2022, 2025), Some(rng.pick(&[0, 1, 1_500, 4_999, 5_000, any, any]))),
+        2 | 3 => (rng.between32(2026, 2035), None),
+        _ => (rng.between32(2026, 2099), None),
+    }
 }
 
 /// How many offers: mostly few, sometimes around a full block, sometimes very many.

@@ -19,8 +19,12 @@ pub fn faulty(rng: &mut Rng) -> Vec<u8> {
 
 fn spoil_parameter(rng: &mut Rng, p: &mut Parameters) {
     let over_cost = p.cost.unwrap_or(1_000_000).saturating_add(1);
-    match rng.draw() % 9 {
-        0 => p.year = rng.pick(&[0, 1, 1999, 2025, 2100, 65_535]),
+    match rng.draw() % 13 {
+        0 => p.year = rng.pick(&[0, 1, 1999, 2021, 2100, 65_535]),
+        9 => p.year = rng.between32(2020, 2035),
+        10 => p.margin = rng.pick(&[Some(0), Some(1_500), Some(5_000)]),
+        11 => p.margin = rng.pick(&[Some(5_001), Some(10_000), Some(u32::MAX)]),
+        12 => p.margin = None,
         1 => p.cost = rng.pick(&[Some(0), Some(1_000_001), Some(u32::MAX)]),
         2 => p.offset = rng.pick(&[Some(over_cost), Some(1_000_000), Some(1_000_001), Some(u32::MAX)]),
         3 => p.outage = rng.pick(&[Some(5_001), Some(10_000), Some(u32::MAX)]),

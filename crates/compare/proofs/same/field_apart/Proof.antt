@@ -17,11 +17,14 @@ apart-requires-3 c κs = search needs
 apart-requires-4 : tie.Need-apart-requires-4
 apart-requires-4 c κs = search needs
 
+apart-requires-5 : tie.Need-apart-requires-5
+apart-requires-5 c κs = search needs
+
 returns : tie.Need-returns
 returns c =
     let last = c .before .before .before in
-    field-later _ _ _ _ _ _ (last .before .before .before .apart .ensures) (last .before .before .apart2 .ensures)
-    (last .before .apart3 .ensures) (last .apart4 .ensures) (c .if1 .taken)
+    field-later _ _ _ _ _ _ _ (last .before .before .before .before .apart .ensures) (last .before .before .before .apart2 .ensures)
+    (last .before .before .apart3 .ensures) (last .before .apart4 .ensures) (last .apart5 .ensures) (c .if1 .taken)
 
 returns-2 : tie.Need-returns-2
 returns-2 c = field-year _ _ (c .if1 .left)
@@ -29,4 +32,4 @@ returns-2 c = field-year _ _ (c .if1 .left)
 pub field-apart-spec : {M : Type 1} → statement M
 field-apart-spec =
     tie.close
-    (tie.spec apart-requires apart-requires-2 apart-requires-3 apart-requires-4 returns returns-2)
+    (tie.spec apart-requires apart-requires-2 apart-requires-3 apart-requires-4 apart-requires-5 returns returns-2)

@@ -41,6 +41,13 @@ returns-5 : tie.Need-returns-5
 unfolding headHolds
 returns-5 c = search ways
 
+is-blank-requires-2 : tie.Need-is-blank-requires-2
+is-blank-requires-2 c κs = search needs
+
+returns-6 : tie.Need-returns-6
+unfolding headHolds
+returns-6 c = search ways
+
 pub head-holds-spec : {M : Type 1} → statement M
 head-holds-spec =
     tie.close
@@ -54,4 +61,6 @@ head-holds-spec =
     head-marks-hold-requires
     returns-4
     is-blank-requires
-    returns-5)
+    returns-5
+    is-blank-requires-2
+    returns-6)

@@ -42,6 +42,13 @@ returns-5 : tie.Need-returns-5
 unfolding headMarksHold marked
 returns-5 c = search ways
 
+absent-holds-requires-5 : tie.Need-absent-holds-requires-5
+absent-holds-requires-5 c κs = search needs
+
+returns-6 : tie.Need-returns-6
+unfolding headMarksHold marked
+returns-6 c = search ways
+
 pub head-marks-hold-spec : {M : Type 1} → statement M
 head-marks-hold-spec =
     tie.close
@@ -55,4 +62,6 @@ head-marks-hold-spec =
     absent-holds-requires-3
     returns-4
     absent-holds-requires-4
-    returns-5)
+    returns-5
+    absent-holds-requires-5
+    returns-6)

@@ -45,6 +45,9 @@ returns-4 c = cc
 enum-told-8 : tie.Need-enum-told-8
 enum-told-8 c = search needs
 
+margin-fault-requires : tie.Need-margin-fault-requires
+margin-fault-requires c κs = search needs
+
 returns-5 : tie.Need-returns-5
 unfolding missingFault
 returns-5 c = cc
@@ -65,4 +68,5 @@ missing-value-spec =
     enum-told-7
     returns-4
     enum-told-8
+    margin-fault-requires
     returns-5)

@@ -9,14 +9,17 @@ use borrow.Author.Needs.{needs}
 use Rattle.limits.proofs.parameters.missing.Statement.{statement}
 use Rattle.limits.proofs.parameters.missing.Tie as tie
 
-add-t6 : tie.Need-add-t6
-add-t6 c = search needs
+values-needed-requires : tie.Need-values-needed-requires
+values-needed-requires c κs = search needs
+
+add-t8 : tie.Need-add-t8
+add-t8 c = search needs
 
 returns : tie.Need-returns
-returns c = sym (cond-true _ _ _ (lt-ltb _ _ (c .if1 .taken))) ∙ gap-missing _ (omega arith)
+returns c = sym (cond-true _ _ _ (lt-ltb _ _ (c .if1 .taken))) ∙ gap-missing _ _ _ (c .before .values-needed .ensures .0) (omega arith)
 
 returns-2 : tie.Need-returns-2
-returns-2 c = sym (cond-false _ _ _ (le-ltb _ _ (c .if1 .left))) ∙ gap-missing _ (omega arith)
+returns-2 c = sym (cond-false _ _ _ (le-ltb _ _ (c .if1 .left))) ∙ gap-missing _ _ _ (c .before .values-needed .ensures .0) (omega arith)
 
 pub missing-spec : {M : Type 1} → statement M
-missing-spec = tie.close (tie.spec add-t6 returns returns-2)
+missing-spec = tie.close (tie.spec values-needed-requires add-t8 returns returns-2)

@@ -5,15 +5,15 @@ use mathlib.Core.Path.{_≡_, sym, _∙_}
 use mathlib.Core.Bool.{true}
 use borrow.Author.Needs.{needs}
 use borrow.Author.Tests.{not-true, not-false}
-use Rattle.values.specs.Refusals.{parameterOutOfRange, unless}
-use Rattle.values.proofs.Firsts.{unless-held, unless-failed}
-use Rattle.limits.specs.Parameters.{within, givenWithin, offsetMost, rangeFault}
+use Rattle.values.specs.Refusals.{parameterOutOfRange, unless, andThen}
+use Rattle.values.proofs.Firsts.{unless-held, unless-failed, andThen-next, andThen-refused}
+use Rattle.limits.specs.Parameters.{within, givenWithin, offsetMost, marginWithin, rangeFault}
 use Rattle.limits.proofs.parameters.parameter_fault.Statement.{statement}
 use Rattle.limits.proofs.parameters.parameter_fault.Tie as tie
 
 -- ---- what each field's test says where it passed
 
-year-within : (c : tie.Else1) → within 2026 2099 (c .before .before .args .p .year) ≡ true
+year-within : (c : tie.Else1) → within 2022 2099 (c .before .before .args .p .year) ≡ true
 year-within c = sym (c .before .within .ensures) ∙ not-false _ (c .if1 .left)
 
 cost-within : (c : tie.Else2) → givenWithin 1 1000000 (c .before .before .before .before .args .p .cost) ≡ true
@@ -29,18 +29,28 @@ outage-within : (c : tie.Else4)
     givenWithin 0 5000 (p .outage) ≡ true
 outage-within c = sym (c .before .given-within3 .ensures) ∙ not-false _ (c .if4 .left)
 
--- past the other fields the requirement's test decides
-requirement-decides : (c : tie.Else4)
+-- past the fields before them the tests of the requirement and the margin decide
+last-decide : (c : tie.Else4)
     → let p = c .before .before .before .before .before .before .before .before .before .args .p in
-    rangeFault p ≡ unless (givenWithin 1000 2000000 (p .requirement)) (parameterOutOfRange 5)
+    rangeFault p
+    ≡ andThen (unless (givenWithin 1000 2000000 (p .requirement)) (parameterOutOfRange 5))
+    (unless (marginWithin (p .year) (p .margin)) (parameterOutOfRange 6))
 unfolding rangeFault
-requirement-decides c =
+last-decide c =
     simp (
       year-within (c .before .before .before .before .before .before .before),
       cost-within (c .before .before .before .before .before),
       offset-within (c .before .before),
       outage-within c,
     )
+
+-- past the requirement that of the margin does
+margin-decides : (c : tie.Else5)
+    → let p = c .before .before .before .before .before .before .before .before .before .before .before .args .p in
+    rangeFault p ≡ unless (marginWithin (p .year) (p .margin)) (parameterOutOfRange 6)
+margin-decides c =
+    last-decide (c .before .before)
+    ∙ andThen-next _ _ (unless-held (parameterOutOfRange 5) (c .before .given-within4 .ensures) (c .if5 .left))
 
 -- ---- the needs
 
@@ -92,12 +102,19 @@ given-within-requires-4 c κs = search needs
 
 returns-5 : tie.Need-returns-5
 returns-5 c =
-    sym (requirement-decides (c .before .before) ∙ unless-failed _ (c .before .given-within4 .ensures) (c .if5 .taken))
+    sym (last-decide (c .before .before)
+    ∙ andThen-refused _ _ 5 5 (unless-failed _ (c .before .given-within4 .ensures) (c .if5 .taken)))
+
+margin-within-requires : tie.Need-margin-within-requires
+margin-within-requires c κs = search needs
 
 returns-6 : tie.Need-returns-6
-returns-6 c =
-    sym (requirement-decides (c .before .before)
-    ∙ unless-held (parameterOutOfRange 5) (c .before .given-within4 .ensures) (c .if5 .left))
+returns-6 c = sym (margin-decides (c .before .before) ∙ unless-failed _ (c .before .margin-within .ensures) (c .if6 .taken))
+
+returns-7 : tie.Need-returns-7
+returns-7 c =
+    sym (margin-decides (c .before .before)
+    ∙ unless-held (parameterOutOfRange 6) (c .before .margin-within .ensures) (c .if6 .left))
 
 pub parameter-fault-spec : {M : Type 1} → statement M
 parameter-fault-spec =
@@ -114,4 +131,6 @@ parameter-fault-spec =
     returns-4
     given-within-requires-4
     returns-5
-    returns-6)
+    margin-within-requires
+    returns-6
+    returns-7)

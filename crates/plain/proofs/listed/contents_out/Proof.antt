@@ -16,6 +16,9 @@ value-out-requires-3 c κs = search needs
 value-out-requires-4 : tie.Need-value-out-requires-4
 value-out-requires-4 c κs = search needs
 
+value-out-requires-5 : tie.Need-value-out-requires-5
+value-out-requires-5 c κs = search needs
+
 returns : tie.Need-returns
 returns c = cc
 
@@ -27,4 +30,5 @@ contents-out-spec =
     value-out-requires-2
     value-out-requires-3
     value-out-requires-4
+    value-out-requires-5
     returns)

@@ -24,6 +24,9 @@ value-at-requires-3 c κs = search needs
 value-at-requires-4 : tie.Need-value-at-requires-4
 value-at-requires-4 c κs = search needs
 
+value-at-requires-5 : tie.Need-value-at-requires-5
+value-at-requires-5 c κs = search needs
+
 returns : tie.Need-returns
 unfolding parametersOf marked
 returns c = cc
@@ -38,4 +41,5 @@ parameters-in-spec =
     value-at-requires-2
     value-at-requires-3
     value-at-requires-4
+    value-at-requires-5
     returns)
