@@ -21,6 +21,7 @@ pub struct Parameters {
 }
 
 /// The values of a place. A flexible offer's block is 0, which changes nothing in what is committed.
+#[derive(Clone, Copy, PartialEq, Eq)]
 pub struct Offer {
     pub resource: u32,
     pub seller: u32,
@@ -109,6 +110,14 @@ impl Parameters {
             return Ok(Curve::new(self.cost, self.offset, self.outage, self.requirement));
         };
         Err((5, field))
+    }
+}
+
+impl Parameters {
+    /// The first field in which parameters that are all given differ.
+    pub fn differ(&self, other: &Parameters) -> Option<u32> {
+        let fields = |p: &Parameters| [u32::from(p.year), p.cost, p.offset, p.outage, p.requirement];
+        (1..).zip(fields(self).into_iter().zip(fields(other))).find(|(_, (one, two))| one != two).map(|(field, _)| field)
     }
 }
 

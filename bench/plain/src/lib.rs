@@ -9,12 +9,15 @@
 mod auction;
 mod block;
 mod book;
+mod comparison;
 mod curve;
 mod manner;
 
 use auction::Auction;
 use book::{Book, Offer};
 use manner::{Manner, Tuned, Usual};
+
+pub use comparison::Comparison;
 
 /// A refusal's number and place.
 type Fault = (u32, u32);
@@ -43,6 +46,16 @@ pub fn clear(bytes: &[u8], cleared: &mut [u32], committed: &mut [u32]) -> Outcom
 /// The same, with a quicker hash and a selection in the place of a sort.
 pub fn clear_tuned(bytes: &[u8], cleared: &mut [u32], committed: &mut [u32]) -> Outcome {
     outcome(try_clear::<Tuned>(bytes, cleared, committed))
+}
+
+/// Whether losers matter between two books.
+pub fn compare(first: &[u8], second: &[u8]) -> Comparison {
+    comparison::compare::<Usual>(first, second)
+}
+
+/// The same, with a quicker hash.
+pub fn compare_tuned(first: &[u8], second: &[u8]) -> Comparison {
+    comparison::compare::<Tuned>(first, second)
 }
 
 fn outcome(result: Result<Clearing, Fault>) -> Outcome {
