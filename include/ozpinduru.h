@@ -137,13 +137,13 @@ ozp_contents ozp_read(const uint8_t *book, size_t book_bytes, ozp_row *rows, siz
  * OZP_GIVEN says that they don't: both books are accepted, the first has the price `price`, their parameters are the same, and
  * their offers at or below that price are the same in every value, in the same order among themselves, `shared` of them; every
  * other offer, in either book, is above it. Then both books have the same answer, with the same price and total and the same
- * amounts of the day and the year; the shared offers clear and commit the same and have the same make-whole, wherever their rows
- * stand, and all others nothing. That is proved.
+ * amounts of the day and the year; the shared offers clear and commit the same and have the same make-whole, wherever their
+ * rows stand, and all others nothing. That is proved.
  *
  * Else the first of these, in this order: OZP_REFUSED, the first book's refusal or the second's, as by ozp_quote; OZP_NONE,
  * nothing clears in the first book, so that there is no price to compare to; OZP_DIFFERS with the lowest field in which the
- * parameters differ; OZP_DIFFERS with the rows of the first two offers at or below the price that differ, `other` having no value
- * where the second book has no such offer more, and `row` where the first has none. */
+ * parameters differ; OZP_DIFFERS with the rows of the first two offers at or below the price that differ, `other` having no
+ * value where the second book has no such offer more, and `row` where the first has none. */
 ozp_comparison ozp_compare(const uint8_t *first, size_t first_bytes, const uint8_t *second, size_t second_bytes);
 
 /* The curve that parameters make. Refused by 4 at the lowest missing field; else by 5 at the lowest field out of range: the

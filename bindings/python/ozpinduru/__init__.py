@@ -12,6 +12,7 @@ from ._refusal import Fault, Refusal, report, version, words
 
 __version__ = "0.4.0"
 __all__ = [
-    "Book", "Clearing", "Columns", "Comparison", "Curve", "Fault", "Offer", "Parameters", "Quote", "Refusal", "RefusedBook", "Row",
+    "Book", "Clearing", "Columns", "Comparison", "Curve", "Fault", "Offer", "Parameters", "Quote", "Refusal", "RefusedBook",
+    "Row",
     "clear", "clear_columns", "compare", "curve", "days", "price_at", "quote", "read", "report", "version", "words",
 ]
