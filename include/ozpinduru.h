@@ -7,8 +7,8 @@
  * Every function answers every input, and its answer is proved to be the one described here. None keeps state, allocates or
  * looks at anything but its arguments, so any number of threads may call at once, also on one book. Of the C library they use
  * memcpy and memset. The buffers of one call must not overlap each other or the book, and nobody else may write the book or
- * use the buffers while the call runs. A call uses less than 40 KiB of stack, ozp_report less than 72: that is measured, and
- * no theorem bounds it.
+ * use the buffers while the call runs. A call uses less than 40 KiB of stack, ozp_compare less than 56 and ozp_report less than
+ * 72: that is measured, and no theorem bounds it.
  *
  * A slice is a pointer and a number of entries, all of which may be read (and, of a buffer, written). Where the number is 0
  * the pointer is not followed and may be null; else it must be valid and aligned to its entries.
@@ -142,13 +142,13 @@ ozp_contents ozp_read(const uint8_t *book, size_t book_bytes, ozp_row *rows, siz
  * OZP_GIVEN says that they don't: both books are accepted, the first has the price `price`, their parameters are the same, and
  * their offers at or below that price are the same in every value, in the same order among themselves, `shared` of them; every
  * other offer, in either book, is above it. Then both books have the same answer, with the same price and total and the same
- * amounts of the day and the year; the shared offers clear and commit the same and have the same make-whole, wherever their rows
- * stand, and all others nothing. That is proved.
+ * amounts of the day and the year; the shared offers clear and commit the same and have the same make-whole, wherever their
+ * rows stand, and all others nothing. That is proved.
  *
  * Else the first of these, in this order: OZP_REFUSED, the first book's refusal or the second's, as by ozp_quote; OZP_NONE,
  * nothing clears in the first book, so that there is no price to compare to; OZP_DIFFERS with the lowest field in which the
- * parameters differ; OZP_DIFFERS with the rows of the first two offers at or below the price that differ, `other` having no value
- * where the second book has no such offer more, and `row` where the first has none. */
+ * parameters differ; OZP_DIFFERS with the rows of the first two offers at or below the price that differ, `other` having no
+ * value where the second book has no such offer more, and `row` where the first has none. */
 ozp_comparison ozp_compare(const uint8_t *first, size_t first_bytes, const uint8_t *second, size_t second_bytes);
 
 /* The curve that parameters make: the year selects it, that of 2022 to 2025 with the reserve margin, or that from 2026 on.

@@ -4,9 +4,9 @@
     tests/make_comparisons.py            writes tests/comparisons/NAME.first.book, NAME.second.book, and NAME.txt
     tests/make_comparisons.py --check    says whether they are what it would write
 
-What is expected stands here beside each pair, worked out by hand from the outline: `applies`, the price and how many offers are
-shared; `nothing clears`; `field` and its number; `rows` of the first and of the second book, - for none; `refused`, the book, the
-number and the place.
+What is expected stands here beside each pair, worked out by hand from the outline: `applies`, the price and how many offers
+are shared; `nothing clears`; `field` and its number; `rows` of the first and of the second book, - for none; `refused`, the
+book, the number and the place.
 """
 from write_book import TESTS, THREE, book, keep, offer
 
@@ -42,7 +42,8 @@ def offers():
     yield "seller-differs", book(THREE), book([offer(11, 10_000, 9_900, stamp=1, seller=8), B, C]), "rows 0 0"
     yield "stamp-differs", book(THREE), book([A, B, offer(13, 37_500, 100, block=50, stamp=4)]), "rows 2 2"
     yield "block-missing", book(THREE), book([A, B, offer(13, 37_500, 100, stamp=3)]), "rows 2 2"
-    yield "resource-differs-behind-a-loser", book([OVER, *THREE]), book([A, B, offer(15, 37_500, 100, block=50, stamp=3)]), "rows 3 2"
+    yield "resource-differs-behind-a-loser", book([OVER, *THREE]), book([A, B, offer(15, 37_500, 100, block=50, stamp=3)]), \
+        "rows 3 2"
     yield "first-without-offers-at-the-price", book([A]), book([offer(15, 10_000, 9_900, stamp=1)]), "rows 0 0"
 
 

@@ -16,7 +16,8 @@ static int is(ozp_comparison c, uint32_t kind, const uint32_t *values)
 #define NO OZP_NO_VALUE
 
 /* compares the two books as they stand */
-static void compared(uint32_t kind, uint32_t price, uint32_t shared, uint32_t field, uint32_t row, uint32_t other, const char *what)
+static void compared(uint32_t kind, uint32_t price, uint32_t shared, uint32_t field, uint32_t row, uint32_t other,
+                     const char *what)
 {
     uint32_t values[] = {NO, NO, NO, NO, NO, NO, NO, NO};
     values[0] = price;

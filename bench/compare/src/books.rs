@@ -38,6 +38,29 @@ pub fn cases() -> Vec<Case> {
     ]
 }
 
+/// Two books, and the most that the library's time over plain Rust's may be on them.
+pub struct Pair {
+    pub name: &'static str,
+    pub first: Vec<u8>,
+    pub second: Vec<u8>,
+    pub target: f64,
+}
+
+pub fn pairs() -> Vec<Pair> {
+    let pair =
+        |name, first: &[Offer], second: &[Offer]| Pair { name, first: written(first), second: written(second), target: 1.0 };
+    // The price is 31,080, so that the offers above it lose.
+    let (low, high): (Vec<Offer>, Vec<Offer>) = distinct().into_iter().partition(|offer| offer.price <= Some(31_080));
+    let (moved, mut altered) = ([high, low.clone()].concat(), low);
+    altered[517].seller += 1;
+    vec![
+        pair("600 beside themselves", &distinct(), &distinct()),
+        pair("600 beside the same, losers first", &distinct(), &moved),
+        pair("600 beside 518, the last altered", &distinct(), &altered),
+        pair("15 beside 15", &distinct()[..15], &distinct()[..15]),
+    ]
+}
+
 fn written(offers: &[Offer]) -> Vec<u8> {
     book(&reference(), offers)
 }

@@ -6,7 +6,7 @@ mod books;
 mod prices;
 mod timing;
 
-use books::{cases, Case};
+use books::{cases, pairs, Case, Pair};
 use ozpinduru::{clear_into, raw, Tenths};
 use std::hint::black_box;
 use timing::best;
@@ -21,6 +21,7 @@ fn main() {
         "microseconds a call", "library", "plain", "ratio", "tuned", "ratio"
     );
     cases.iter().for_each(compare);
+    pairs().iter().for_each(compare_pair);
     println!();
     prices::compare();
     println!();
@@ -48,14 +49,47 @@ fn compare(case: &Case) {
         &mut || done(plain::clear(black_box(book), c, d)),
         &mut || done(plain::clear_tuned(black_box(book), e, f)),
     ]);
+    line(case.name, [library, plain, tuned], case.target);
+}
+
+fn line(name: &str, [library, plain, tuned]: [f64; 3], target: f64) {
     let over_plain = library / plain;
-    let met = if over_plain <= case.target { "met" } else { "missed" };
+    let met = if over_plain <= target { "met" } else { "missed" };
     println!(
-        "{:<42} {library:>8.3} {plain:>8.3} {over_plain:>6.2} {tuned:>8.3} {:>6.2}  {:.1} {met}",
-        case.name,
-        library / tuned,
-        case.target
+        "{name:<42} {library:>8.3} {plain:>8.3} {over_plain:>6.2} {tuned:>8.3} {:>6.2}  {target:.1} {met}",
+        library / tuned
     );
+}
+
+/// A line of the first table for two books that are compared, once all three have said the same of them.
+fn compare_pair(pair: &Pair) {
+    let (first, second) = (&pair.first[..], &pair.second[..]);
+    let found = said(ozpinduru::compare(first, second));
+    for compare in [plain::compare, plain::compare_tuned] {
+        assert_eq!(compare(first, second), found, "{}", pair.name);
+    }
+    let times = best([
+        &mut || done(ozpinduru::compare(black_box(first), black_box(second))),
+        &mut || done(plain::compare(black_box(first), black_box(second))),
+        &mut || done(plain::compare_tuned(black_box(first), black_box(second))),
+    ]);
+    line(pair.name, times, pair.target);
+}
+
+/// A comparison as plain Rust says it.
+fn said(found: ozpinduru::Comparison) -> plain::Comparison {
+    let refused = |book, refusal: ozpinduru::Refusal| {
+        let (number, place) = (refusal.number(), refusal.place());
+        plain::Comparison::Refused { book, number, place }
+    };
+    match found {
+        ozpinduru::Comparison::Applies { price, shared } => plain::Comparison::Applies { price: price.0, shared },
+        ozpinduru::Comparison::FirstRefused(refusal) => refused(1, refusal),
+        ozpinduru::Comparison::SecondRefused(refusal) => refused(2, refusal),
+        ozpinduru::Comparison::NothingClears => plain::Comparison::NothingClears,
+        ozpinduru::Comparison::ParametersDiffer(field) => plain::Comparison::ParametersDiffer(field as u32),
+        ozpinduru::Comparison::OffersDiffer { row, other } => plain::Comparison::OffersDiffer { row, other },
+    }
 }
 
 /// A line of the second table. A call that reads a book into no entries is refused once 1 to 3 are ruled out, and one that

@@ -11,6 +11,7 @@ const PLACES: usize = 15;
 const MOST_OFFERS: usize = 600;
 
 /// The values of a place. A flexible offer's block is 0, which changes nothing in what is committed.
+#[derive(Clone, Copy, PartialEq, Eq)]
 pub struct Offer {
     pub resource: u32,
     pub seller: u32,

@@ -10,6 +10,7 @@
 mod auction;
 mod block;
 mod book;
+mod comparison;
 mod curve;
 mod manner;
 mod parameters;
@@ -20,6 +21,8 @@ use auction::Auction;
 use book::{Book, Offer};
 use manner::{Manner, Tuned, Usual};
 use parameters::Parameters;
+
+pub use comparison::Comparison;
 
 /// A refusal's number and place.
 type Fault = (u32, u32);
@@ -64,6 +67,16 @@ pub struct Given {
 /// The price at a quantity of the curve that parameters make, between cents; none past the last point.
 pub fn price_at(given: Given, k: u32) -> Result<Option<ExactPrice>, Fault> {
     Ok(Parameters::given(given).curve()?.exact_at(u64::from(k)))
+}
+
+/// Whether losers matter between two books.
+pub fn compare(first: &[u8], second: &[u8]) -> Comparison {
+    comparison::compare::<Usual>(first, second)
+}
+
+/// The same, with a quicker hash.
+pub fn compare_tuned(first: &[u8], second: &[u8]) -> Comparison {
+    comparison::compare::<Tuned>(first, second)
 }
 
 fn outcome(result: Result<Clearing, Fault>) -> Outcome {

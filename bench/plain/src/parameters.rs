@@ -61,4 +61,10 @@ impl Parameters {
         };
         Err((5, field))
     }
+
+    /// The first field in which parameters of which all that is needed is given differ.
+    pub fn differ(&self, other: &Parameters) -> Option<u32> {
+        let fields = |p: &Parameters| [u32::from(p.year), p.cost, p.offset, p.outage, p.requirement, p.margin];
+        (1..).zip(fields(self).into_iter().zip(fields(other))).find(|(_, (one, two))| one != two).map(|(field, _)| field)
+    }
 }

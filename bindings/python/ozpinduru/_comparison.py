@@ -24,13 +24,13 @@ class RefusedBook(Refusal):
 class Comparison:
     """Two accepted books, and what each clears in all.
 
-    Where `applies` is true, losers don't matter between them: their parameters are the same, and so are their offers at or below the
-    first's price, `shared` of them, in the same order among themselves; every other offer is above it. It is proved that both then have
-    the same answer, and each shared offer the same amounts, wherever its row stands.
+    Where `applies` is true, losers don't matter between them: their parameters are the same, and so are their offers at or
+    below the first's price, `shared` of them, in the same order among themselves; every other offer is above it. It is proved
+    that both then have the same answer, and each shared offer the same amounts, wherever its row stands.
 
-    Else the first thing that differs is told: the `field` of the parameters, or the `row` of the first book and the `other` of the second,
-    of which one is None where that book has no offer at or below the price more. Where nothing clears in the first book there is no price
-    to compare to, and nothing is told.
+    Else the first thing that differs is told: the `field` of the parameters, or the `row` of the first book and the `other` of
+    the second, of which one is None where that book has no offer at or below the price more. Where nothing clears in the first
+    book there is no price to compare to, and nothing is told.
     """
     applies: bool
     shared: Optional[int]

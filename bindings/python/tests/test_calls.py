@@ -10,8 +10,8 @@ from concurrent.futures import ThreadPoolExecutor
 from dataclasses import FrozenInstanceError, replace
 
 from shared import PYTHON, ROOT, pairs, reference, verdicts
-from ozpinduru import (Book, Clearing, Columns, Comparison, Curve, Fault, Offer, Parameters, Quote, Refusal, RefusedBook, Row, clear,
-                       clear_columns, compare, curve, days, price_at, quote, read, report, version, words)
+from ozpinduru import (Book, Clearing, Columns, Comparison, Curve, Fault, Offer, Parameters, Quote, Refusal, RefusedBook, Row,
+                       clear, clear_columns, compare, curve, days, price_at, quote, read, report, version, words)
 from write_book import REFERENCE, THREE, book, many, offer
 
 GIVEN = Parameters(**REFERENCE)
@@ -152,7 +152,8 @@ class Compares(unittest.TestCase):
             self.assertEqual(more.pop(at), Row(14, 0, 0, 0))
             self.assertEqual(more, rows)
         self.assertNotEqual(clear(book([*THREE, offer(14, 37_500, 500)])).rows[:3], rows)
-        self.assertEqual(compare(book(THREE), memoryview(book(THREE))), Comparison(True, 3, None, None, None, Quote(*IN_ALL), Quote(*IN_ALL)))
+        both = Comparison(True, 3, None, None, None, Quote(*IN_ALL), Quote(*IN_ALL))
+        self.assertEqual(compare(book(THREE), memoryview(book(THREE))), both)
 
     def test_refused(self):
         self.assertRaisesRegex(RefusedBook, "^book 2 is refused 1 at 0: length", compare, reference(), b"")

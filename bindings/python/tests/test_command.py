@@ -73,19 +73,21 @@ class Says(unittest.TestCase):
                                         "$375.00 per MW-day, and the first has no such offer more",
             "offer-at-the-price-taken-out": "row 2 of the first book, resource 13 at $375.00 per MW-day, is at or below "
                                             "$375.00 per MW-day, and the second has no such offer more",
-            "two-fields-differ-the-lowest-first": "field 3 (revenue offset) differs, 73,000 and 73,001, and the curve or the year with it",
+            "two-fields-differ-the-lowest-first": "field 3 (revenue offset) differs, 73,000 and 73,001, "
+                                                  "and the curve or the year with it",
             "nothing-clears-in-the-first": "nothing clears in the first book, so there is no price to compare to",
         }.items():
             status, said, _ = ozp("compare", *pair(name))
             self.assertEqual((status, said.splitlines()[0]), (0, f"losers may matter: {why}"))
         self.assertEqual(ozp("compare", "-", REFERENCE, input=reference())[0], 0)
-        self.assertEqual(ozp("compare", REFERENCE, UNPRICED)[:2], (1, f"{UNPRICED}: book 2 is refused 6 at row 0: an offer has no price\n"))
+        self.assertEqual(ozp("compare", REFERENCE, UNPRICED)[:2],
+                         (1, f"{UNPRICED}: book 2 is refused 6 at row 0: an offer has no price\n"))
 
     def test_compare_json(self):
         books = pair("losers-of-another-kind")
         status, said, _ = ozp("compare", "--json", *books)
         found = json.loads(said)
-        self.assertEqual((status, found["books"], found["applies"], found["shared"], found["above"]), (0, books, True, 3, [1, 2]))
+        self.assertEqual([status, *map(found.get, ("books", "applies", "shared", "above"))], [0, books, True, 3, [1, 2]])
         self.assertEqual(found["first"], found["second"])
         apart = json.loads(ozp("compare", "--json", *pair("offer-at-the-price-taken-out"))[1])
         self.assertEqual([apart[name] for name in ("applies", "field", "row", "other")], [False, None, 2, None])
@@ -155,7 +157,8 @@ class Fails(unittest.TestCase):
         self.one_line(2, ozp("clear", "-", preexec_fn=lambda: os.close(0)), "standard input is shut")
 
     def test_unwritable(self):
-        for words in (["clear", REFERENCE], ["rows", "--json", REFERENCE], ["compare", REFERENCE, REFERENCE], GIVEN, ["--help"], ["clear", "--help"], ["--version"]):
+        for words in (["clear", REFERENCE], ["rows", "--json", REFERENCE], ["compare", REFERENCE, REFERENCE], GIVEN, ["--help"],
+                      ["clear", "--help"], ["--version"]):
             with self.subTest(words), open("/dev/full", "w") as full:
                 self.one_line(2, ozp(*words, stdout=full), "No space left on device")
                 self.one_line(2, ozp(*words, preexec_fn=lambda: os.close(1), stdout=None), "standard output is shut")

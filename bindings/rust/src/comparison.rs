@@ -6,8 +6,8 @@ use crate::{CentsPerMwDay, Field, Refusal};
 /// What a comparison of two books says. Rows count from 0.
 #[derive(Clone, Copy, Debug, PartialEq, Eq)]
 pub enum Comparison {
-    /// Losers don't matter: both books have the same parameters, and the same offers at or below the first book's price, `shared`
-    /// of them, in the same order among themselves. So both have the same answer, and each shared offer gets the same.
+    /// Losers don't matter: both books have the same parameters, and the same offers at or below the first book's price,
+    /// `shared` of them, in the same order among themselves. So both have the same answer, and each shared offer gets the same.
     Applies {
         price: CentsPerMwDay,
         shared: usize,
@@ -18,8 +18,8 @@ pub enum Comparison {
     NothingClears,
     /// The parameters differ: the first field that does.
     ParametersDiffer(Field),
-    /// The first offers at or below the price that differ: the row in the first book and in the second. There is none where a book
-    /// has no such offer more.
+    /// The first offers at or below the price that differ: the row in the first book and in the second. There is none where a
+    /// book has no such offer more.
     OffersDiffer {
         row: Option<usize>,
         other: Option<usize>,

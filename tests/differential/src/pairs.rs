@@ -88,8 +88,8 @@ fn quoted(book: &[u8]) -> Option<(u32, u32)> {
     ozpinduru::quote(book).ok().map(|quote| (quote.total.0, quote.price.map_or(NO_VALUE, |price| price.0)))
 }
 
-/// The theorem's conclusion, on the library's own answers: one answer, the same for each offer at or below the price, and nothing for all
-/// others.
+/// The theorem's conclusion, on the library's own answers: one answer, the same for each offer at or below the price, and nothing
+/// for all others.
 fn follows(price: u32, one: &[u8], two: &[u8]) -> Result<Vec<&'static str>, String> {
     let (first, second) = (sold(price, one)?, sold(price, two)?);
     same("the answer where losers don't matter", &first.0, &second.0)?;

@@ -14,8 +14,8 @@ pub enum Comparison {
     OffersDiffer { row: Option<usize>, other: Option<usize> },
 }
 
-/// "Two accepted books with the same parameters, the first of them with a price", whose "offers at or below that price are the same, row
-/// for row in the same order among themselves".
+/// "Two accepted books with the same parameters, the first of them with a price", whose "offers at or below that price are the
+/// same, row for row in the same order among themselves".
 pub fn compare(first: &[u8], second: &[u8]) -> Comparison {
     let one = match admitted(first, MOST_OFFERS, MOST_OFFERS) {
         Ok(book) => book,

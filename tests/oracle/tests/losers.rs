@@ -50,8 +50,8 @@ fn sold(price: u32, book: &Book, clearing: &Clearing) -> (Option<u32>, u32, u64,
     (clearing.price, clearing.total, clearing.daily, clearing.year, rows.collect())
 }
 
-/// How often a premise holds of random pairs, and how often the answers differ though it holds. Parameters are the same, both books are
-/// accepted and the first has a price.
+/// How often a premise holds of random pairs, and how often the answers differ though it holds. Parameters are the same, both
+/// books are accepted and the first has a price.
 fn tried(premise: impl Fn(u32, &Book, &Book) -> bool) -> (usize, usize) {
     let (mut holds, mut differ) = (0, 0);
     for seed in 0..1_000 {

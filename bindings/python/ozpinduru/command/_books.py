@@ -49,6 +49,11 @@ def opened(name: str) -> Optional[bytes]:
         return None
 
 
+def refused(refusal: Refusal) -> dict[str, Any]:
+    """The values of a refusal."""
+    return {"number": refusal.number, "place": refusal.place, "where": refusal.where, "when": refusal.when}
+
+
 def answered(asked: argparse.Namespace, name: Optional[str], answer: Callable[[], Answer]) -> int:
     """Says an answer, or the refusal in its place, and returns the status."""
     values: dict[str, Any] = {} if name is None else {"book": name}
@@ -58,7 +63,7 @@ def answered(asked: argparse.Namespace, name: Optional[str], answer: Callable[[]
         status = ANSWERED
     except Refusal as refusal:
         text, status = str(refusal), REFUSED
-        found = {"refused": {"number": refusal.number, "place": refusal.place, "where": refusal.where, "when": refusal.when}}
+        found = {"refused": refused(refusal)}
     say(json.dumps({**values, **found}) + "\n" if asked.json else f"{lead}{text}\n")
     return status
 

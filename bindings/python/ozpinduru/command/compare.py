@@ -1,12 +1,12 @@
-"""Whether losers matter between two books: whether a rival's unsold offer can have moved the answer from the first to the second.
+"""Whether losers matter between two books: whether a rival's unsold offer can have moved the answer.
 
-They don't where both books have the same parameters, and the same offers at or below the first's price in the same order among
-themselves: then both answers are the same, and so is what each of these offers gets. Else the first thing that differs is told, and
-the answers, which are shown side by side, may differ too.
+They don't where both books have the same parameters, and the same offers at or below the first's price in the same order
+among themselves: then both answers are the same, and so is what each of these offers gets. Else the first thing that differs
+is told, and the answers, which are shown side by side, may differ too.
 
-With --json: books, applies, shared (how many offers), field, row and other (what differs, else null), above (how many offers of each
-book are above the price, null where there is none), and first and second, each with what `ozp clear --json` has; a refused book has
-"refused": book (1 or 2), number, place, where and when.
+With --json: books, applies, shared (how many offers), field, row and other (what differs, else null), above (how many offers
+of each book are above the price, null where there is none), and first and second, each with what `ozp clear --json` has; a
+refused book has "refused": book (1 or 2), number, place, where and when.
 """
 import argparse
 import json
@@ -15,7 +15,7 @@ from typing import Any, Optional
 
 from .. import Comparison, Offer, Parameters, Quote, RefusedBook, compare, read
 from .._refusal import FIELDS
-from ._books import ANSWERED, REFUSED, UNREADABLE, as_json, opened, shown
+from ._books import ANSWERED, REFUSED, UNREADABLE, as_json, opened, refused, shown
 from ._streams import complain, say
 from .._units import dollars, money, sold
 
@@ -52,7 +52,8 @@ def _why(c: Comparison, parameters: tuple[Parameters, Parameters], offers: tuple
         return "nothing clears in the first book, so there is no price to compare to"
     if c.field is not None:
         one, two = (getattr(p, _FIELDS[c.field - 1]) for p in parameters)
-        return f"field {c.field} ({FIELDS[c.field - 1]}) differs, {_values(one)} and {_values(two)}, and the curve or the year with it"
+        named = f"field {c.field} ({FIELDS[c.field - 1]})"
+        return f"{named} differs, {_values(one)} and {_values(two)}, and the curve or the year with it"
     if c.row is None and c.other is not None:
         return _alone("the second book", c.other, offers[1][c.other], c.first.price, "the first")
     if c.other is None and c.row is not None:
@@ -99,6 +100,6 @@ def run(asked: argparse.Namespace) -> int:
         text, found, status = _text(c, first, second, above), _values_of(c, above), ANSWERED
     except RefusedBook as refusal:
         text, status = f"{shown(asked.books[refusal.book - 1])}: {refusal}", REFUSED
-        found = {"refused": {"book": refusal.book, "number": refusal.number, "place": refusal.place, "where": refusal.where, "when": refusal.when}}
+        found = {"refused": {"book": refusal.book, **refused(refusal)}}
     say(json.dumps({"books": asked.books, **found}) + "\n" if asked.json else f"{text}\n")
     return status
