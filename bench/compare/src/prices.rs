@@ -36,27 +36,35 @@ const HELD: raw::Parameters = raw::Parameters {
     margin: Value { kind: raw::MISSING, number: 0 },
 };
 
-/// A line for each part of the curve.
+/// A line for the whole curve, a quantity a megawatt after the other, and one for each part of it.
 pub fn compare() {
     println!("{:<42} {:>8} {:>8} {:>6} {:>8}  target", "nanoseconds a price", "library", "plain", "ratio", "crate");
-    for (name, k) in [
-        ("exact price on the level stretch", 5_000),
-        ("exact price on the first line", 10_001),
-        ("exact price on the second line", 10_151),
-        ("exact price past the last point: none", 10_451),
+    for (name, from, to) in [
+        ("exact price, over the whole curve", 0, 10_450),
+        ("exact price on the level stretch", 5_000, 5_000),
+        ("exact price on the first line", 10_001, 10_001),
+        ("exact price on the second line", 10_151, 10_151),
+        ("exact price past the last point: none", 10_451, 10_451),
     ] {
-        agree(name, k);
+        let [mut j, mut k, mut l] = [from; 3];
+        agree(name, from);
         let [library, plain, through] = best([
             // SAFETY: the call takes numbers alone.
-            &mut || done(unsafe { raw::ozp_price_at(*black_box(&HELD), black_box(k)) }),
-            &mut || done(plain::price_at(*black_box(&PLAIN), black_box(k))),
-            &mut || done(price_at(black_box(&PARAMETERS), Tenths(black_box(k)))),
+            &mut || done(unsafe { raw::ozp_price_at(*black_box(&HELD), next(&mut j, from, to)) }),
+            &mut || done(plain::price_at(*black_box(&PLAIN), next(&mut k, from, to))),
+            &mut || done(price_at(black_box(&PARAMETERS), Tenths(next(&mut l, from, to)))),
         ])
         .map(|micros| 1_000.0 * micros);
         let ratio = library / plain;
         let met = if ratio <= TARGET { "met" } else { "missed" };
         println!("{name:<42} {library:>8.2} {plain:>8.2} {ratio:>6.2} {through:>8.2}  {TARGET:.1} {met}");
     }
+}
+
+/// The quantity that is asked next: a megawatt on, and from the start again past the end.
+fn next(k: &mut u32, from: u32, to: u32) -> u32 {
+    *k = if *k + 10 > to { from } else { *k + 10 };
+    black_box(*k)
 }
 
 /// Stops where the three do not give the same price.
