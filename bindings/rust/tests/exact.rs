@@ -6,7 +6,7 @@ use std::cmp::Ordering;
 fn parameters((cost, offset, outage, requirement): (u32, u32, u32, u32)) -> Parameters {
     let dollars = |number| Some(DollarsPerMwYear(number));
     let (cost, offset) = (dollars(cost), dollars(offset));
-    Parameters { year: 2026, cost, offset, outage: Some(outage), requirement: Some(Tenths(requirement)) }
+    Parameters { year: 2026, cost, offset, outage: Some(outage), requirement: Some(Tenths(requirement)), margin: None }
 }
 
 /// The reference, a curve that comes down to 0 at its second point, one of zeros, the largest, and one of odd numbers.
