@@ -45,7 +45,7 @@ def curve(parameters: Parameters) -> Curve:
 
 
 def price_at(parameters: Parameters, k: int) -> Optional[ExactPrice]:
-    """The price at k tenths of the curve that parameters make, None past its last point, or raises Refusal."""
+    """The price at k tenths of the curve that parameters make, between cents; None past its last point; or raises Refusal."""
     if operator.index(k) < 0:
         raise ValueError(f"{k} is no quantity")
     p = library.ozp_price_at(lent(parameters), min(operator.index(k), NO_VALUE))

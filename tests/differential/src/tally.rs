@@ -10,7 +10,8 @@ use std::collections::BTreeMap;
 /// A run of so many calls has to meet every kind.
 const ENOUGH: u64 = 1_000;
 
-/// The kinds, as they are printed. A call is of one kind of the first line, of one of the second, and of any of the others.
+/// The kinds, as they are printed. A call is of one kind of the first line, of one of the second, and of any of the others;
+/// of a curve's prices each is counted.
 const KINDS: [&[&str]; 13] = [
     &["valid", "faulty", "damaged", "stray"],
     &["not laid out", "no offers", "1 to 15 offers", "16 to 599", "600"],
