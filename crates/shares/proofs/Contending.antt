@@ -23,10 +23,10 @@ use Rattle.columns.specs.inner.Column.{rowsOf}
 use Rattle.market.specs.declared.level.Level.{Level}
 use Rattle.contest.specs.inner.Contest.{wins, contenders, inOrder}
 use Rattle.contest.proofs.Winning.{wins-contenders}
-use Rattle.shares.specs.inner.Parts.{keyOf, rowKey}
+use Rattle.parts.specs.inner.Parts.{keyOf, rowKey}
 use Rattle.shares.specs.inner.Halves.{highHalf, lowHalf}
 use Rattle.shares.specs.inner.Steps.{Stopped}
-use Rattle.shares.proofs.RowParts.{key-at}
+use Rattle.parts.proofs.RowParts.{key-at}
 use Rattle.shares.proofs.Sharing.{stop-some, spares-away, cleared-down}
 
 module _ (o : Offers) (l : Level) (s : Stopped o l) (i : ℕ) (within : i < o .count) (at : o .price i ≡ l .price) where

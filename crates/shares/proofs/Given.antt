@@ -21,7 +21,8 @@ use Rattle.market.specs.inner.Rows.{RowLists, listed}
 use Rattle.market.specs.Stop.{stopLevel}
 use Rattle.market.specs.inner.Stop.{StopsAt}
 use Rattle.shares.specs.inner.Out.{Ordered}
-use Rattle.shares.specs.inner.Steps.{Stopped, DividesRows}
+use Rattle.parts.specs.inner.Divides.{DividesRows}
+use Rattle.shares.specs.inner.Steps.{Stopped}
 use Rattle.shares.proofs.Sharing.{stop-some}
 
 -- the level at which a total stops holds the total

@@ -19,8 +19,9 @@ use Rattle.auction.proofs.Spares.{spares-rest}
 use Rattle.market.specs.declared.level.Level.{Level}
 use Rattle.columns.specs.inner.Column.{rowsOf}
 use Rattle.market.specs.inner.Rows.{RowLists, listed}
-use Rattle.shares.specs.inner.Steps.{Stopped, DividesRows, HoldsParts}
-use Rattle.shares.proofs.RowParts.{part-most}
+use Rattle.parts.specs.inner.Divides.{DividesRows}
+use Rattle.shares.specs.inner.Steps.{Stopped, HoldsParts}
+use Rattle.parts.proofs.RowParts.{part-most}
 use Rattle.shares.proofs.Sharing.{downs, part-share}
 
 -- where a level has nothing to sell, a share of it is nothing

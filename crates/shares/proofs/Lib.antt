@@ -1,4 +1,3 @@
-pub mod RowParts
 pub mod Stopping
 pub mod Sharing
 pub mod Contending

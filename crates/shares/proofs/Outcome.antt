@@ -13,7 +13,7 @@ use Rattle.auction.specs.Offers.{Offers}
 use Rattle.auction.specs.Shares.{spareTenths, cleared}
 use Rattle.market.specs.declared.level.Level.{Level}
 use Rattle.shares.specs.inner.Out.{SharedOut}
-use Rattle.shares.specs.inner.Parts.{partOf}
+use Rattle.parts.specs.inner.Parts.{partOf}
 use Rattle.shares.specs.inner.Steps.{Stopped}
 use Rattle.shares.proofs.Sharing.{part-cleared}
 

@@ -15,7 +15,7 @@ use Rattle.columns.specs.inner.Column.{rowsOf}
 use Rattle.market.specs.declared.level.Level.{Level}
 use Rattle.contest.specs.inner.Contest.{wins, contenders, inOrder}
 use Rattle.contest.specs.inner.Award.{Awarded}
-use Rattle.shares.specs.inner.Parts.{rowKey, rowStanding}
+use Rattle.parts.specs.inner.Parts.{rowKey, rowStanding}
 use Rattle.shares.specs.inner.Halves.{highHalf, lowHalf}
 use Rattle.shares.specs.inner.Steps.{SparesDue, Adds}
 use Rattle.shares.proofs.Sharing.{part-share}

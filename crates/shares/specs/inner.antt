@@ -1,4 +1,3 @@
 pub mod Out
-pub mod Parts
 pub mod Steps
 pub mod Halves

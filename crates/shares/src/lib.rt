@@ -1,12 +1,11 @@
 // What each row clears of a total: whole under the level at which the total stops, nothing over it, and at it a share.
-mod share;
 mod spare;
 
-use crate::share::parts;
 use crate::spare::give;
 use market::level::Level;
 use market::level::supply_below;
 use market::supply::supply_at;
+use parts::parts;
 ghost use mathlib.Core.Path.{_≡_};
 ghost use Prim.Native.Nat.{_≤_};
 ghost use lib.ListN.{length};

@@ -1,7 +1,7 @@
 // The spare tenths of the level at which a total stops: one each to the first in the order.
-use crate::share::exact;
 use contest::award;
 use market::level::Level;
+use parts::exact;
 ghost use mathlib.Core.Path.{_≡_};
 ghost use mathlib.Core.Bool.{cond};
 ghost use Prim.Native.Nat.{_+_, _/_, _%_, _≤_};
@@ -11,8 +11,9 @@ ghost use Rattle.laws.specs.Filled.{filled};
 ghost use Rattle.auction.specs.Shares.{cleared};
 ghost use Rattle.columns.specs.inner.Column.{rowsOf};
 ghost use Rattle.shares.specs.inner.Halves.{highHalf, lowHalf};
-ghost use Rattle.shares.specs.inner.Parts.{partOf, keyOf, rowKey, rowStanding};
-ghost use Rattle.shares.specs.inner.Steps.{Divides, DividesRows, HoldsParts, SparesDue, Adds};
+ghost use Rattle.parts.specs.inner.Parts.{partOf, keyOf, rowKey, rowStanding};
+ghost use Rattle.parts.specs.inner.Divides.{Divides, DividesRows};
+ghost use Rattle.shares.specs.inner.Steps.{HoldsParts, SparesDue, Adds};
 
 // A row's key in the order of spare tenths: the lower the more rounding down left, 0 away from the level.
 fn key(price: u32, quantity: u32, share: u32, level: Level) -> u32

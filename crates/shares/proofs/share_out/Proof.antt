@@ -11,7 +11,8 @@ use Rattle.laws.proofs.FilledRows.{filled-row}
 use Rattle.auction.specs.Offers.{Offers}
 use Rattle.auction.specs.Shares.{spareTenths}
 use Rattle.columns.specs.inner.Column.{rowsOf}
-use Rattle.shares.specs.inner.Steps.{Stopped, DividesRows, HoldsParts}
+use Rattle.parts.specs.inner.Divides.{DividesRows}
+use Rattle.shares.specs.inner.Steps.{Stopped, HoldsParts}
 use Rattle.shares.proofs.Given.{rows-stopped, rows-divide}
 use Rattle.shares.proofs.Holding.{parts-rows, held-spare}
 use Rattle.shares.proofs.Outcome.{given-shared, parts-shared}

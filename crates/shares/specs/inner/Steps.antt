@@ -7,23 +7,11 @@ use lib.ListN.{length, getD}
 use Rattle.auction.specs.Offers.{Offers}
 use Rattle.auction.specs.Shares.{spareTenths}
 use Rattle.columns.specs.inner.Column.{rowsOf}
-use Rattle.market.specs.inner.Rows.{RowLists}
 use Rattle.market.specs.inner.Stop.{StopsAt}
 use Rattle.market.specs.declared.level.Level.{Level}
 use Rattle.shares.specs.inner.Out.{Ordered}
-use Rattle.shares.specs.inner.Parts.{rowPart}
-
--- a level's numbers are in a book's range, and where the row is at its price it has something to sell
-pub record Divides (l : Level) (price quantity : ℕ) : Type 0 where
-  pub some : price ≡ l .price → 0 < l .sum
-  pub within : l .amount ≤ l .sum
-  pub low : l .sum ≤ 120000000
-  pub small : quantity ≤ 200000
-
--- the same of each of n rows
-pub record DividesRows (l : Level) (prices quantities : List ℕ) (n : ℕ) : Type 0 where
-  pub rows : RowLists prices quantities n
-  pub each : (i : ℕ) → i < n → Divides l (getD prices i 0) (getD quantities i 0)
+use Rattle.parts.specs.inner.Parts.{rowPart}
+use Rattle.parts.specs.inner.Divides.{DividesRows}
 
 -- a list holds the part of each of n rows
 pub record HoldsParts (l : Level) (prices quantities : List ℕ) (n : ℕ) (shares : List ℕ) : Type 0 where

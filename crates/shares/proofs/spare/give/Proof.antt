@@ -10,7 +10,7 @@ use lib.Dec.{eqb}
 use borrow.Author.Needs.{needs}
 use Rattle.laws.proofs.Filling.{length-filling}
 use Rattle.laws.proofs.FilledRows.{filled-row}
-use Rattle.shares.specs.inner.Parts.{rowKey}
+use Rattle.parts.specs.inner.Parts.{rowKey}
 use Rattle.shares.specs.inner.Halves.{highHalf, lowHalf}
 use Rattle.shares.proofs.Tenths.{standing-most, won-adds, won-cleared}
 use Rattle.shares.proofs.spare.give.Statement.{statement}

@@ -5,7 +5,7 @@ use mathlib.Core.Path.{_≡_, sym, _∙_}
 use Prim.Native.Nat.{_+_, _*_, _%_, _<_}
 use native.Mathlib.Omega.{arith}
 use borrow.Author.Needs.{needs}
-use Rattle.shares.proofs.RowParts.{part-left, key-at, key-away}
+use Rattle.parts.proofs.RowParts.{part-left, key-at, key-away}
 use Rattle.shares.proofs.spare.key.Statement.{statement}
 use Rattle.shares.proofs.spare.key.Tie as tie
 

@@ -8,7 +8,7 @@ use borrow.Author.Needs.{needs}
 use Rattle.laws.specs.Filled.{filled}
 use Rattle.laws.proofs.Fills.{filled-none, filled-more}
 use Rattle.laws.proofs.Filling.{length-filling, filled-all}
-use Rattle.shares.specs.inner.Parts.{rowKey, rowStanding}
+use Rattle.parts.specs.inner.Parts.{rowKey, rowStanding}
 use Rattle.shares.proofs.spare.line_up.Statement.{statement}
 use Rattle.shares.proofs.spare.line_up.Tie as tie
 

@@ -4,8 +4,8 @@ use mathlib.Core.Path.{refl}
 use Prim.Native.Nat.{_*_, _≤_}
 use native.Mathlib.Nat.{mul-le-mul}
 use native.Mathlib.Omega.{arith}
-use Rattle.shares.proofs.share.exact.Statement.{statement}
-use Rattle.shares.proofs.share.exact.Tie as tie
+use Rattle.parts.proofs.exact.Statement.{statement}
+use Rattle.parts.proofs.exact.Tie as tie
 
 product-most : (c : tie.Start) → c .args .quantity * c .args .amount ≤ 24000000000000
 product-most c = mul-le-mul {n₂ = 200000} {m₂ = 120000000} (c .pre .0) (c .pre .1)

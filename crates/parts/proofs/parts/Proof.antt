@@ -8,9 +8,9 @@ use borrow.Author.Needs.{needs}
 use Rattle.laws.specs.Filled.{filled}
 use Rattle.laws.proofs.Fills.{filled-none, filled-more}
 use Rattle.laws.proofs.Filling.{length-filling, filled-all}
-use Rattle.shares.specs.inner.Parts.{rowPart}
-use Rattle.shares.proofs.share.parts.Statement.{statement}
-use Rattle.shares.proofs.share.parts.Tie as tie
+use Rattle.parts.specs.inner.Parts.{rowPart}
+use Rattle.parts.proofs.parts.Statement.{statement}
+use Rattle.parts.proofs.parts.Tie as tie
 
 abbrev Inv-loop : tie.InvT-loop
 Inv-loop prices quantities n level out₀ row₀ out row = (row ≤ n) × (out ≡ filled (rowPart level prices quantities) row out₀)

@@ -4,10 +4,10 @@ use mathlib.Core.Path.{_≡_, sym, ap, _∙_}
 use Prim.Native.Nat.{ℕ, _/_}
 use native.Mathlib.Omega.{arith}
 use borrow.Author.Needs.{needs}
-use Rattle.shares.specs.inner.Parts.{partOf}
-use Rattle.shares.proofs.RowParts.{part-under, part-over, part-at, part-most}
-use Rattle.shares.proofs.share.part.Statement.{statement}
-use Rattle.shares.proofs.share.part.Tie as tie
+use Rattle.parts.specs.inner.Parts.{partOf}
+use Rattle.parts.proofs.RowParts.{part-under, part-over, part-at, part-most}
+use Rattle.parts.proofs.part.Statement.{statement}
+use Rattle.parts.proofs.part.Tie as tie
 
 returns : tie.Need-returns
 returns c = sym (part-under _ _ _ (c .if1 .taken))

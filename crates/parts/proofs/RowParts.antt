@@ -10,8 +10,8 @@ use native.Mathlib.Omega.{arith}
 use borrow.Author.Tests.{lt-ltb, le-ltb, eq-eqb, ne-eqb}
 use Rattle.laws.proofs.Compare.{by-comparison}
 use Rattle.market.specs.declared.level.Level.{Level}
-use Rattle.shares.specs.inner.Parts.{partOf, keyOf}
-use Rattle.shares.specs.inner.Steps.{Divides}
+use Rattle.parts.specs.inner.Parts.{partOf, keyOf}
+use Rattle.parts.specs.inner.Divides.{Divides}
 
 module _ (l : Level) (price quantity : ℕ) where
   -- under the level all of the quantity

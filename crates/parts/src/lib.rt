@@ -4,8 +4,8 @@ ghost use mathlib.Core.Path.{_≡_};
 ghost use Prim.Native.Nat.{_*_, _/_, _≤_, _<_};
 ghost use lib.ListN.{length};
 ghost use Rattle.laws.specs.Filled.{filled};
-ghost use Rattle.shares.specs.inner.Parts.{partOf, rowPart};
-ghost use Rattle.shares.specs.inner.Steps.{Divides, DividesRows};
+ghost use Rattle.parts.specs.inner.Parts.{partOf, rowPart};
+ghost use Rattle.parts.specs.inner.Divides.{Divides, DividesRows};
 
 // A quantity times a level's amount: its exact part of the level, once it is divided by the level's sum.
 pub fn exact(quantity: u32, amount: u32) -> u64
