@@ -9,7 +9,7 @@ from ._clearing import Clearing, Columns, Quote, Row, clear, clear_columns, quot
 from ._curve import Curve, curve, price_at
 from ._refusal import Fault, Refusal, report, version, words
 
-__version__ = "0.5.0"
+__version__ = "0.6.0"
 __all__ = [
     "Book", "Clearing", "Columns", "Curve", "Fault", "Offer", "Parameters", "Quote", "Refusal", "Row",
     "clear", "clear_columns", "curve", "days", "price_at", "quote", "read", "report", "version", "words",

@@ -6,7 +6,7 @@ import os
 import pathlib
 from typing import Any
 
-VERSION = (0, 5, 0)
+VERSION = (0, 6, 0)
 
 # kinds
 GIVEN, NONE, REFUSED, MISSING = 1, 2, 3, 4

@@ -61,7 +61,7 @@ structs! {
     CurvePrice { kind: u32, price: u32, number: u32, place: u32 }
     /// What a book says.
     Contents { kind: u32, rows: u32, number: u32, place: u32, parameters: Parameters }
-    /// A text in lent room.
+    /// A text or a book in lent room.
     Text { bytes: u64, kind: u32, number: u32, place: u32 }
 }
 
@@ -82,6 +82,7 @@ extern "C" {
     ) -> Answer;
     pub fn ozp_quote(book: *const u8, book_bytes: usize) -> Answer;
     pub fn ozp_read(book: *const u8, book_bytes: usize, rows: *mut Row, row_entries: usize) -> Contents;
+    pub fn ozp_write(parameters: Parameters, rows: *const Row, row_entries: usize, room: *mut u8, room_bytes: usize) -> Text;
     pub fn ozp_curve(parameters: Parameters) -> CurvePoints;
     pub fn ozp_price_at(parameters: Parameters, k: u32) -> CurvePrice;
     pub fn ozp_make_whole(kind: u32, price: u32, cleared: u32, committed: u32) -> u64;
