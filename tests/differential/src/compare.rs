@@ -1,6 +1,6 @@
 //! One call through the C interface, beside the oracle's.
 
-use crate::{curve, days, reading, texts};
+use crate::{curve, days, reading, texts, writing};
 use oracle::random::{Call, Rng};
 use oracle::{book, Outcome, Row};
 use ozpinduru::raw::{self, Answer, NO_AMOUNT, NO_VALUE};
@@ -37,7 +37,13 @@ pub fn call(call: &Call, seed: u64) -> Result<Compared, String> {
         compared()?;
     }
     let read = book::read(book);
-    let kinds = [reading::read(book, &read, rng)?, curve::curve(&read, rng)?, texts::report(book, rng)?, days::days(rng)?];
+    let kinds = [
+        reading::read(book, &read, rng)?,
+        curve::curve(&read, rng)?,
+        texts::report(book, rng)?,
+        days::days(rng)?,
+        writing::write(book, &read, rng)?,
+    ];
     same("whether the book is unchanged", book == call.book, true)?;
     Ok(Compared { outcome, kinds: kinds.concat() })
 }

@@ -6,10 +6,12 @@
 mod compare;
 mod curve;
 mod days;
+mod kinds;
 mod layouts;
 mod reading;
 mod tally;
 mod texts;
+mod writing;
 
 use oracle::random;
 use std::env;
