@@ -44,14 +44,12 @@ static void expect_no_curve(ozp_parameters p, unsigned number, unsigned place)
 
 static ozp_value *field(ozp_parameters *p, unsigned place)
 {
-    return place == OZP_COST      ? &p->cost
-           : place == OZP_OFFSET  ? &p->offset
-           : place == OZP_OUTAGE  ? &p->outage
-           : place == OZP_MARGIN  ? &p->margin
-                                  : &p->requirement;
+    ozp_value *fields[] = {&p->cost, &p->offset, &p->outage, &p->requirement, &p->margin};
+    return fields[place - OZP_COST];
 }
 
-/* a value that is missing is 4 whatever its number, and one of any other kind is 5, as if it were given and out of range */
+/* a value that is missing is 4 whatever its number, and one of any other kind is 5, as if it were given and out of range; in 1999
+   the margin is not needed, and the requirement before it is the first that is missing */
 static void kinds(void)
 {
     static const uint32_t wrong[] = {0, OZP_NONE, OZP_REFUSED, 5, UINT32_MAX};
@@ -67,7 +65,7 @@ static void kinds(void)
         expect_no_curve(p, OZP_MISSING_PARAMETER, place);
         p.year = 1999;
         p.requirement.kind = OZP_MISSING;
-        expect_no_curve(p, OZP_MISSING_PARAMETER, place < OZP_REQUIREMENT ? place : OZP_REQUIREMENT);
+        expect_no_curve(p, OZP_MISSING_PARAMETER, place == OZP_MARGIN ? place - 1 : place);
     }
 }
 
