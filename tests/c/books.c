@@ -16,7 +16,8 @@ static void judge(const char *folder, const char *line)
     const char *sound = strchr(line, ',');
     const char *handed = strstr(line, ", rows ");
     size_t bytes;
-    if (verdict == NULL || sound == NULL || handed == NULL || (size_t)(verdict - line) >= sizeof name || sscanf(handed, ", rows %u", &rows) != 1) {
+    if (verdict == NULL || sound == NULL || handed == NULL || (size_t)(verdict - line) >= sizeof name
+        || sscanf(handed, ", rows %u", &rows) != 1) {
         expect(0, line, "a line of the expected output");
         return;
     }

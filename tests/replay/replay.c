@@ -82,6 +82,8 @@ static const char *difference(const struct call *call, ozp_answer a, const uint3
         return "the sum of make-whole";
     if (due->rows > 0 && !(is_read(call, due->rows) && is_read(call, due->rows + 1) && !is_read(call, due->rows - 1)))
         return "what is read";
+    if (!is_written_back(call))
+        return "what is written back";
     return is_reported(call) ? NULL : "the report";
 }
 

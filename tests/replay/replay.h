@@ -25,5 +25,6 @@ void *room(size_t bytes);
 
 int is_read(const struct call *call, size_t entries);
 int is_reported(const struct call *call);
+int is_written_back(const struct call *call);
 
 #endif
