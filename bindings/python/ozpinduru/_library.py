@@ -41,6 +41,7 @@ def _declared(c: ctypes.CDLL) -> ctypes.CDLL:
         ("clear", Answer, book + buffer + buffer),
         ("quote", Answer, book),
         ("read", Contents, book + buffer),
+        ("write", Text, [Parameters] + buffer + buffer),
         ("curve", CurvePoints, [Parameters]),
         ("price_at", CurvePrice, [Parameters, _word]),
         ("make_whole", _amount, [_word] * 4),

@@ -17,3 +17,15 @@ def verdicts():
     for line in (VERDICTS / "stdout").read_text().splitlines():
         name, said = line.split(": ")
         yield name, (VERDICTS / "data" / name).read_bytes(), said.split(", ")[0], int(said.split()[-1])
+
+
+def soundness():
+    """What the program `verdicts` says of each book by its name: sound, or by what it is not."""
+    lines = (line.split(": ") for line in (VERDICTS / "stdout").read_text().splitlines())
+    return {name: said.split(", ")[1] for name, said in lines}
+
+
+def shipped():
+    """Every book that ships with the project."""
+    folders = (VERDICTS / "data", ROOT / "examples", ROOT / "tests" / "clearings", ROOT / "tests" / "explain")
+    return [path for folder in folders for path in sorted(folder.glob("*.book"))]

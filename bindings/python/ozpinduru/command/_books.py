@@ -30,14 +30,14 @@ def shown(name: str) -> str:
     return name if name.isprintable() else ascii(name)
 
 
-def read(name: str) -> bytes:
-    """The bytes of a book, and of a longer file one byte more than any book has."""
+def read(name: str, most: int = BOOK_BYTES + 1) -> bytes:
+    """The bytes of a book, and of a longer file one byte more than any book has; or so many as are asked for, -1 for all."""
     if name != "-":
         with open(name, "rb") as file:
-            return file.read(BOOK_BYTES + 1)
+            return file.read(most)
     if sys.stdin is None:
         raise OSError(0, "standard input is shut")
-    return sys.stdin.buffer.read(BOOK_BYTES + 1)
+    return sys.stdin.buffer.read(most)
 
 
 def opened(name: str) -> Optional[bytes]:
@@ -49,6 +49,11 @@ def opened(name: str) -> Optional[bytes]:
         return None
 
 
+def refused(refusal: Refusal) -> dict[str, Any]:
+    """The values of a refusal."""
+    return {"refused": {"number": refusal.number, "place": refusal.place, "where": refusal.where, "when": refusal.when}}
+
+
 def answered(asked: argparse.Namespace, name: Optional[str], answer: Callable[[], Answer]) -> int:
     """Says an answer, or the refusal in its place, and returns the status."""
     values: dict[str, Any] = {} if name is None else {"book": name}
@@ -57,8 +62,7 @@ def answered(asked: argparse.Namespace, name: Optional[str], answer: Callable[[]
         text, found = answer()
         status = ANSWERED
     except Refusal as refusal:
-        text, status = str(refusal), REFUSED
-        found = {"refused": {"number": refusal.number, "place": refusal.place, "where": refusal.where, "when": refusal.when}}
+        text, found, status = str(refusal), refused(refusal), REFUSED
     say(json.dumps({**values, **found}) + "\n" if asked.json else f"{lead}{text}\n")
     return status
 
