@@ -6,9 +6,9 @@ use crate::manner::Manner;
 use crate::Fault;
 use std::collections::HashSet;
 
-const PLACE: usize = 32;
-const PLACES: usize = 15;
-const MOST_OFFERS: usize = 600;
+pub const PLACE: usize = 32;
+pub const PLACES: usize = 15;
+pub const MOST_OFFERS: usize = 600;
 
 /// The values of block 0; those that are not marked in `marks` are 0.
 pub struct Parameters {
@@ -29,7 +29,7 @@ pub struct Offer {
     pub quantity: u32,
     pub block: u32,
     pub stamp: u64,
-    marks: u8,
+    pub marks: u8,
 }
 
 pub struct Book {

@@ -4,20 +4,24 @@
 //! Then a sort by price, a walk over the sums that finds the total and the price at once, and a division of the one level that
 //! clears in part. Nothing is written into the buffers before the whole book is known to be good.
 //!
+//! `read` and `write` go between a book and what it says: the rows are tested in one pass, and each block is filled and sealed.
+//!
 //! `clear` finds repeats with the standard HashSet and orders ties with a sort; `clear_tuned` has a quicker hash and a selection.
 
 mod auction;
 mod block;
 mod book;
+mod contents;
 mod curve;
 mod manner;
 
 use auction::Auction;
 use book::{Book, Offer};
+pub use contents::{Contents, Row};
 use manner::{Manner, Tuned, Usual};
 
 /// A refusal's number and place.
-type Fault = (u32, u32);
+pub type Fault = (u32, u32);
 
 #[derive(Clone, Copy, Debug, PartialEq, Eq)]
 pub enum Outcome {
@@ -43,6 +47,21 @@ pub fn clear(bytes: &[u8], cleared: &mut [u32], committed: &mut [u32]) -> Outcom
 /// The same, with a quicker hash and a selection in the place of a sort.
 pub fn clear_tuned(bytes: &[u8], cleared: &mut [u32], committed: &mut [u32]) -> Outcome {
     outcome(try_clear::<Tuned>(bytes, cleared, committed))
+}
+
+/// What a book says, or refusals 1, 2 and 3.
+pub fn read(bytes: &[u8]) -> Result<Contents, Fault> {
+    Contents::read(bytes)
+}
+
+/// Writes the book that says these contents into the room, and returns the count of its bytes. A refusal leaves the room.
+pub fn write(contents: &Contents, room: &mut [u8]) -> Result<usize, Fault> {
+    contents.write::<Usual>(room)
+}
+
+/// The same with a quicker hash.
+pub fn write_tuned(contents: &Contents, room: &mut [u8]) -> Result<usize, Fault> {
+    contents.write::<Tuned>(room)
 }
 
 fn outcome(result: Result<Clearing, Fault>) -> Outcome {
