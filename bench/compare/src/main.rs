@@ -4,6 +4,7 @@
 
 mod books;
 mod timing;
+mod writing;
 
 use books::{cases, Case};
 use ozpinduru::{clear_into, raw, Tenths};
@@ -20,6 +21,7 @@ fn main() {
         "microseconds a call", "library", "plain", "ratio", "tuned", "ratio"
     );
     cases.iter().for_each(compare);
+    writing::compare();
     println!();
     println!("{:<42} {:>8} {:>8} {:>8}", "the library's time, in microseconds, for", "form", "rows", "auction");
     cases.iter().filter(|case| accepted(&case.book)).for_each(stages);
@@ -40,19 +42,18 @@ fn compare(case: &Case) {
     agree(case);
     let (mut a, mut b) = ([NONE; ROOM], [NONE; ROOM]);
     let [(c, d), (e, f)] = &mut [([0; ROOM], [0; ROOM]); 2];
-    let [library, plain, tuned] = best([
+    let times = best([
         &mut || done(clear_into(black_box(book), &mut a, &mut b)),
         &mut || done(plain::clear(black_box(book), c, d)),
         &mut || done(plain::clear_tuned(black_box(book), e, f)),
     ]);
-    let over_plain = library / plain;
-    let met = if over_plain <= case.target { "met" } else { "missed" };
-    println!(
-        "{:<42} {library:>8.3} {plain:>8.3} {over_plain:>6.2} {tuned:>8.3} {:>6.2}  {:.1} {met}",
-        case.name,
-        library / tuned,
-        case.target
-    );
+    line(case.name, times, case.target);
+}
+
+fn line(name: &str, [library, plain, tuned]: [f64; 3], target: f64) {
+    let (over_plain, over_tuned) = (library / plain, library / tuned);
+    let met = if over_plain <= target { "met" } else { "missed" };
+    println!("{name:<42} {library:>8.3} {plain:>8.3} {over_plain:>6.2} {tuned:>8.3} {over_tuned:>6.2}  {target:.1} {met}");
 }
 
 /// A line of the second table. A call that reads a book into no entries is refused once 1 to 3 are ruled out, and one that

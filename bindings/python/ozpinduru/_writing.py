@@ -2,31 +2,32 @@
 from __future__ import annotations
 
 import ctypes
+import struct
 from array import array
 from itertools import islice
 from operator import index
-from typing import Iterable, Optional
+from typing import Iterable
 
 from ._book import ROW, Offer, Parameters, lent
 from ._library import BOOK_BYTES, GIVEN, MISSING, NO_VALUE, REFUSED, ROWS, library
 from ._refusal import Refusal
 
-_WIDEST_STAMP = 2**64 - 1
-
-
-def _value(number: Optional[int]) -> tuple[int, int]:
-    """Kind and number of a value on its way in."""
-    return (MISSING, NO_VALUE) if number is None else (GIVEN, index(number))
+_MISSING = (MISSING, NO_VALUE)
+# resource and seller 1, quantity 0
+_OUT_OF_RANGE = ROW.pack(0, 1, 1, 0, *_MISSING, *_MISSING)
 
 
 def _row(offer: Offer) -> bytes:
-    """A row on its way in. One with a number that its bytes do not hold is out of range, and goes in as one of quantity 0, which
-    is so too."""
-    price, block = _value(offer.price), _value(offer.block)
-    numbers = [index(number) for number in (offer.resource, offer.seller, offer.quantity)] + [price[1], block[1]]
-    if not (0 <= index(offer.stamp) <= _WIDEST_STAMP and all(0 <= number <= NO_VALUE for number in numbers)):
-        return ROW.pack(0, 1, 1, 0, MISSING, NO_VALUE, MISSING, NO_VALUE)
-    return ROW.pack(offer.stamp, *numbers[:3], *price, *block)
+    """A row on its way in. One with a number that its bytes do not hold is out of range, and another that is so goes in for it."""
+    price, block = offer.price, offer.block
+    try:
+        return ROW.pack(offer.stamp, offer.resource, offer.seller, offer.quantity,
+                        *(_MISSING if price is None else (GIVEN, price)), *(_MISSING if block is None else (GIVEN, block)))
+    except struct.error:
+        given = [number for number in (price, block) if number is not None]
+        for number in (offer.resource, offer.seller, offer.quantity, offer.stamp, *given):
+            index(number)
+        return _OUT_OF_RANGE
 
 
 def write(parameters: Parameters, offers: Iterable[Offer]) -> bytes:

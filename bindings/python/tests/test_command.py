@@ -112,7 +112,8 @@ class Fails(unittest.TestCase):
         self.one_line(2, ozp("clear", "-", preexec_fn=lambda: os.close(0)), "standard input is shut")
 
     def test_unwritable(self):
-        for words in (["clear", REFERENCE], ["rows", "--json", REFERENCE], ["read", REFERENCE], GIVEN, ["--help"], ["clear", "--help"], ["--version"]):
+        for words in (["clear", REFERENCE], ["rows", "--json", REFERENCE], ["read", REFERENCE], GIVEN, ["--help"],
+                      ["clear", "--help"], ["--version"]):
             with self.subTest(words), open("/dev/full", "w") as full:
                 self.one_line(2, ozp(*words, stdout=full), "No space left on device")
                 self.one_line(2, ozp(*words, preexec_fn=lambda: os.close(1), stdout=None), "standard output is shut")
