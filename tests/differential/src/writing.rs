@@ -7,7 +7,7 @@ use oracle::book::{Book, Fault, Offer, Parameters, LONGEST};
 use oracle::random::contents::contents;
 use oracle::random::Rng;
 use ozpinduru::raw::{self, Row, Text, NO_AMOUNT, NO_VALUE};
-use ozpinduru::{CentsPerMwDay, DollarsPerMwYear, Tenths};
+use ozpinduru::{CentsPerMwDay, DollarsPerMwYear, Refusal, Tenths};
 
 /// Compares the book that random contents make; then, where the call's own book is read, what was read of it written back. Says
 /// of which kind both were.
@@ -118,8 +118,7 @@ fn shown(book: &Book) -> Vec<&'static str> {
 fn by_the_crate(book: &Book) -> Result<(), String> {
     let (parameters, offers) = (given(&book.parameters), book.offers.iter().map(offer).collect::<Vec<_>>());
     let found = ozpinduru::write(&parameters, &offers);
-    let due = oracle::write(&book.parameters, &book.offers, LONGEST);
-    same("what the Rust crate writes", found.clone().map_err(|refusal| (refusal.number(), refusal.place())), due)?;
+    same_book(&found, &oracle::write(&book.parameters, &book.offers, LONGEST))?;
     match found {
         Ok(bytes) => same("what is read again", ozpinduru::read(&bytes), Ok(ozpinduru::Book { parameters, offers })),
         Err(_) => Ok(()),
@@ -129,11 +128,19 @@ fn by_the_crate(book: &Book) -> Result<(), String> {
 /// What was read of a book, written back: its bytes where it is sound, else what keeps it from being sound.
 fn written_back(bytes: &[u8], book: &Book) -> Result<&'static str, String> {
     let offers: Vec<_> = book.offers.iter().map(offer).collect();
-    let found = ozpinduru::write(&given(&book.parameters), &offers);
     let due = oracle::sound(bytes).map_or_else(|| Ok(bytes.to_vec()), Err);
-    let kind = if due.is_ok() { "written back" } else { "not sound" };
-    same("what is written back", found.map_err(|refusal| (refusal.number(), refusal.place())), due)?;
-    Ok(kind)
+    same_book(&ozpinduru::write(&given(&book.parameters), &offers), &due)?;
+    Ok(if due.is_ok() { "written back" } else { "not sound" })
+}
+
+/// Compares a book that the Rust crate writes, or its refusal.
+fn same_book(found: &Result<Vec<u8>, Refusal>, due: &Result<Vec<u8>, Fault>) -> Result<(), String> {
+    let bytes = found.as_ref().map(Vec::len).map_err(|refusal| (refusal.number(), refusal.place()));
+    same("the length or the refusal of a book", bytes, due.as_ref().map(Vec::len).map_err(|&fault| fault))?;
+    match (found, due) {
+        (Ok(found), Ok(due)) => entries("book", found, due),
+        _ => Ok(()),
+    }
 }
 
 fn given(p: &Parameters) -> ozpinduru::Parameters {
