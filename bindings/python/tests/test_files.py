@@ -17,6 +17,12 @@ MISSING = VERDICTS / "data" / "no-price-in-row-0.book"
 DAMAGED = str(VERDICTS / "data" / "check-byte-altered.book")
 
 
+def inside(*words):
+    """Exit status, standard output and standard error of a run in this process."""
+    with contextlib.redirect_stdout(io.StringIO()) as out, contextlib.redirect_stderr(io.StringIO()) as wrong:
+        return main(words), out.getvalue(), wrong.getvalue()
+
+
 class Files(unittest.TestCase):
     def setUp(self):
         folder = tempfile.TemporaryDirectory()
@@ -35,7 +41,7 @@ class Files(unittest.TestCase):
     def fails(self, status, pattern, *words, **streams):
         """A run that fails, with one line and the files as they were."""
         before = {name: (self.folder / name).read_bytes() for name in self.names()}
-        done = ozp(*words, **streams)
+        done = ozp(*words, **streams) if streams else inside(*words)
         said = done[2] if status == 2 else done[1]
         self.assertEqual((done[0], len(said.splitlines())), (status, 1), done)
         self.assertRegex(said, pattern)
@@ -66,17 +72,16 @@ class ReadsAndWrites(Files):
     def test_every_book_that_ships(self):
         """What is read is written back byte for byte where the book is sound; else no book is made."""
         said, written = soundness(), 0
-        with contextlib.redirect_stdout(io.StringIO()):
-            for path in shipped():
-                source, copy = self.path("json"), self.folder / path.name
-                refused = main(["read", str(path), "-o", source]) or main(["write", source, "-o", str(copy)])
-                self.assertEqual(refused, 0 if copy.exists() else 1, path.name)
-                if copy.exists():
-                    self.assertEqual(copy.read_bytes(), path.read_bytes(), path.name)
-                if path.parent.name == "data":
-                    self.assertEqual(copy.exists(), said[path.name] == "sound", path.name)
-                written += copy.exists()
-                copy.unlink(missing_ok=True)
+        for path in shipped():
+            source, copy = self.path("json"), self.folder / path.name
+            refused = inside("read", str(path), "-o", source)[0] or inside("write", source, "-o", str(copy))[0]
+            self.assertEqual(refused, 0 if copy.exists() else 1, path.name)
+            if copy.exists():
+                self.assertEqual(copy.read_bytes(), path.read_bytes(), path.name)
+            if path.parent.name == "data":
+                self.assertEqual(copy.exists(), said[path.name] == "sound", path.name)
+            written += copy.exists()
+            copy.unlink(missing_ok=True)
         self.assertGreaterEqual(written, 90)
 
     def test_place(self):
