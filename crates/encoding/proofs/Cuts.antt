@@ -26,6 +26,11 @@ module _ {ℓ} {A : Type ℓ} where
   pub part-join : (s : List A) (at n m : ℕ) → part s at n ++ part s (at + n) m ≡ part s at (n + m)
   part-join s at n m = rw (take-add, drop-drop)
 
+  -- what stands in a part, put before what stands in the part behind it
+  pub part-onto : (s : List A) (at n m : ℕ) {xs ys : List A} → xs ≡ part s at n → ys ≡ part s (at + n) m
+      → xs ++ ys ≡ part s at (n + m)
+  part-onto s at n m e f = ap₂ _++_ e f ∙ part-join s at n m
+
   -- the whole list
   pub part-whole : (s : List A) → part s 0 (length s) ≡ s
   part-whole s = take-length s

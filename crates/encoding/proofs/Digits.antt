@@ -6,14 +6,14 @@ use mathlib.Core.Path.{_≡_, refl, sym, ap, ap₂, _∙_}
 use mathlib.Core.Bool.{true}
 use mathlib.Core.List.{List, [], _∷_, _++_, append-assoc}
 use Prim.Native.Nat.{ℕ, zero, suc, _+_, _*_, _/_, _%_, _≤_, _<_}
-use native.Mathlib.Nat.{mod-eq-of-lt}
+use native.Mathlib.Nat.{mod-eq-of-lt, add-assoc}
 use native.Mathlib.Numerals.{add-one}
 use native.Mathlib.Omega.{arith}
 use lib.ListN.{length, getD, take, drop}
 use lib.Seq.{drop-cons}
 use Rattle.block.specs.Bytes.{byte, u16At, u32At, u64At}
 use Rattle.encoding.specs.Numbers.{u16Bytes, u32Bytes, u64Bytes, zeros}
-use Rattle.encoding.proofs.Cuts.{part, part-join}
+use Rattle.encoding.proofs.Cuts.{part, part-join, getD-past}
 use Rattle.encoding.proofs.Halves.{u16Bytes-halves, u32Bytes-halves, u64Bytes-halves}
 
 -- what is read of a byte is under 256
@@ -22,7 +22,7 @@ Bytes s = (i : ℕ) → byte s i < 256
 
 -- ---- a number read from its bytes
 
-u16At-kept : (n : ℕ) (q : List ℕ) → u16At (u16Bytes n ++ q) 0 ≡ n % 65536
+pub u16At-kept : (n : ℕ) (q : List ℕ) → u16At (u16Bytes n ++ q) 0 ≡ n % 65536
 unfolding u16At u16Bytes
 u16At-kept n q = omega arith
 
@@ -52,10 +52,19 @@ u64At-bytes n q h =
     let high = second-half n m q ∙ u32At-kept m q in
     omega arith
 
+-- ---- a number that stands in the second of two lists put together
+
+pub u16At-past : (p q : List ℕ) (k at : ℕ) → length p ≡ k → u16At (p ++ q) (k + at) ≡ u16At q at
+unfolding u16At
+u16At-past p q k at e =
+    ap₂ (λ (a b : ℕ). a + b * 256)
+    (getD-past p q k at 0 e)
+    (ap (byte (p ++ q)) (add-assoc k at 1) ∙ getD-past p q k (at + 1) 0 e)
+
 -- ---- the bytes of a part from the number that it holds
 
 -- two bytes, one by one
-pair-at : (s : List ℕ) (at : ℕ) → at + 2 ≤ length s → part s at 2 ≡ byte s at ∷ byte s (at + 1) ∷ []
+pub pair-at : (s : List ℕ) (at : ℕ) → at + 2 ≤ length s → part s at 2 ≡ byte s at ∷ byte s (at + 1) ∷ []
 pair-at s at h = rw (drop-cons s at 0 (omega arith), drop-cons s (suc at) 0 (omega arith), add-one at)
 
 module _ (s : List ℕ) (bytes : Bytes s) where

@@ -1,3 +1,6 @@
 pub mod Cuts
 pub mod Halves
 pub mod Digits
+pub mod Values
+pub mod Sealed
+pub mod Place
