@@ -80,6 +80,7 @@ pub fn words(number: u32, room: &mut [u8]) -> OzpText
             room,
             b"a result buffer has fewer entries than offers; 1 cleared, 2 committed",
         ),
+        19 => put_text(room, b"more than 600 rows; 0"),
         20 => put_text(room, b"the room lent is too small; 0"),
         _ => no_text(),
     }
