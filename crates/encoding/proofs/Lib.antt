@@ -4,3 +4,5 @@ pub mod Digits
 pub mod Values
 pub mod Sealed
 pub mod Place
+pub mod PlaceRead
+pub mod Head
