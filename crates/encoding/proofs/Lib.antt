@@ -6,3 +6,5 @@ pub mod Sealed
 pub mod Place
 pub mod PlaceRead
 pub mod Head
+pub mod HeadHolds
+pub mod Rows
