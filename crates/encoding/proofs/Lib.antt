@@ -8,3 +8,5 @@ pub mod PlaceRead
 pub mod Head
 pub mod HeadHolds
 pub mod Rows
+pub mod RowsHold
+pub mod Book

@@ -49,16 +49,16 @@ place-of-row (o ∷ os) q (suc i) l =
 
 module _ (k : ℕ) (os : List Offer) where
   -- the block as far as its places
-  abbrev rowsOpening : List ℕ
+  abbrev pub rowsOpening : List ℕ
   rowsOpening = ofrs ++ (u16Bytes k ++ (u16Bytes (length os) ++ zeros 20))
 
-  abbrev unused : List ℕ
+  abbrev pub unused : List ℕ
   unused = zeros (480 - length os * 32)
 
   abbrev pub rowsBlock : List ℕ
   rowsBlock = sealed (rowsBytes k os)
 
-  length-opening : length rowsOpening ≡ 28
+  pub length-opening : length rowsOpening ≡ 28
   unfolding u16Bytes zeros
   length-opening = refl
 
