@@ -95,7 +95,7 @@ module _ (c : Contents) where
       ∙ rowBlocks-at (blocksFor (length offers)) 1 offers j l
 
   -- the offer of a row, in the block where it stands
-  offer-here : (j i : ℕ) → i < 15 → offerAt (offersHere offers j) i ≡ offerAt offers (j * 15 + i)
+  pub offer-here : (j i : ℕ) → i < 15 → offerAt (offersHere offers j) i ≡ offerAt offers (j * 15 + i)
   offer-here j i l = getD-part offers (j * 15) 15 i noOffer l
 
   -- The bytes of a row are those that its offer is written as.

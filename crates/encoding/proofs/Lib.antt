@@ -10,3 +10,5 @@ pub mod HeadHolds
 pub mod Rows
 pub mod RowsHold
 pub mod Book
+pub mod Form
+pub mod Encoded

@@ -11,6 +11,7 @@ use native.Mathlib.Omega.{arith}
 use lib.ListN.{length, getD, length-append}
 use lib.Dec.{eqb}
 use borrow.Author.Tests.{lt-ltb, le-leb, eq-eqb}
+use Rattle.block.specs.Check.{checkHolds}
 use Rattle.values.specs.declared.place.Offer.{Offer}
 use Rattle.values.specs.Contents.{noOffer, offerAt}
 use Rattle.layout.specs.Blocks.{placeOf}
@@ -19,7 +20,7 @@ use Rattle.encoding.specs.Numbers.{u16Bytes, zeros}
 use Rattle.encoding.specs.Encode.{placeBytes, placesBytes, rowsBytes, sealed}
 use Rattle.encoding.proofs.Cuts.{part, part-here, part-past, getD-past}
 use Rattle.encoding.proofs.Digits.{length-zeros, byte-zeros}
-use Rattle.encoding.proofs.Sealed.{seal, length-sealed}
+use Rattle.encoding.proofs.Sealed.{seal, length-sealed, sealed-holds}
 use Rattle.encoding.proofs.Place.{length-place}
 
 -- ---- places, one after another
@@ -91,3 +92,7 @@ module _ (k : ℕ) (os : List Offer) where
 
     pub length-block : length rowsBlock ≡ 512
     length-block = length-sealed (rowsBytes k os) length-rows
+
+    -- its check holds
+    pub check-block : checkHolds rowsBlock ≡ true
+    check-block = sealed-holds (rowsBytes k os) length-rows
