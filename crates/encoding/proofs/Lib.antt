@@ -4,3 +4,11 @@ pub mod Digits
 pub mod Values
 pub mod Sealed
 pub mod Place
+pub mod PlaceRead
+pub mod Head
+pub mod HeadHolds
+pub mod Rows
+pub mod RowsHold
+pub mod Book
+pub mod Form
+pub mod Encoded

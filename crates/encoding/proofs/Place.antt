@@ -3,11 +3,12 @@
 -- In order: the place as numbers alone; its length; each field; the offer; the place is laid out as a used one.
 -- Assumes nothing.
 use mathlib.Core.Path.{_≡_, refl, sym, ap, ap₂, _∙_}
-use mathlib.Core.Bool.{true}
+use mathlib.Core.Bool.{true, _&&_}
 use mathlib.Core.List.{List, [], _∷_, _++_}
 use Prim.Native.Nat.{ℕ, _+_, _*_, _/_, _%_, _≤_, _<_}
 use native.Mathlib.Omega.{arith}
 use lib.ListN.{length}
+use lib.Dec.{eqb, leb}
 use borrow.Author.Tests.{le-leb}
 use Rattle.laws.proofs.Cases.{and-true}
 use Rattle.block.specs.Bytes.{byte, u16At, u32At, u64At}
@@ -77,3 +78,19 @@ module _ (o : Offer) where
           block = value-back (o .block) (byte (placeBytes o) 28) 1 block-marked block-at i;
           stamp = at-20 i;
         }
+
+    last-part : lastHolds offersLast (placeBytes o) ≡ true
+    unfolding lastHolds u64Bytes u32Bytes u16Bytes zeros
+    last-part =
+        and-true _ _
+        (le-leb (byte (placeBytes o) 28) 3 (omega (arith, marks-at, mark-most (o .price), mark-most (o .block))))
+        (ap (λ (s : List ℕ). leb (byte s 29) 0 && (leb 0 (byte s 30) && (leb (byte s 30) 0 && eqb (byte s 31) 0))) place-numbers)
+
+    -- A place that is written is laid out as a used one.
+    pub place-used : usedHolds offersLast (placeBytes o) ≡ true
+    unfolding usedHolds
+    place-used =
+        and-true _ _ last-part
+        (and-true _ _
+        (absent-back (o .price) (byte (placeBytes o) 28) 0 price-marked price-at)
+        (absent-back (o .block) (byte (placeBytes o) 28) 1 block-marked block-at))
