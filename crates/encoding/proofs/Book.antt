@@ -37,7 +37,7 @@ first-length k offers = length-block k (take 15 offers) (offersHere-most offers 
 
 -- ---- the blocks of offers
 
-length-rowBlocks : (blocks k : ℕ) (offers : List Offer) → length (rowBlocks blocks k offers) ≡ blocks * 512
+pub length-rowBlocks : (blocks k : ℕ) (offers : List Offer) → length (rowBlocks blocks k offers) ≡ blocks * 512
 unfolding rowBlocks
 length-rowBlocks zero k offers = refl
 length-rowBlocks (suc blocks) k offers =

@@ -63,7 +63,7 @@ module _ (k : ℕ) (os : List Offer) where
   unfolding u16Bytes zeros
   length-opening = refl
 
-  rows-parts : rowsBytes k os ≡ rowsOpening ++ (placesBytes os ++ unused)
+  pub rows-parts : rowsBytes k os ≡ rowsOpening ++ (placesBytes os ++ unused)
   unfolding rowsBytes
   rows-parts = simp append-assoc
 
@@ -83,7 +83,7 @@ module _ (k : ℕ) (os : List Offer) where
       ∙ place-of-row os (unused ++ seal (rowsBytes k os)) i l
 
   module _ (here : length os ≤ 15) where
-    length-rows : length (rowsBytes k os) ≡ 508
+    pub length-rows : length (rowsBytes k os) ≡ 508
     length-rows =
         ap length rows-parts
         ∙ length-append rowsOpening (placesBytes os ++ unused)

@@ -37,7 +37,7 @@ module _ (s t : List ℕ) (same : (i : ℕ) → i < 508 → byte s i ≡ byte t 
   unfolding secondSum
   secondSum-same = sumTo-ext _ _ 508 (λ i l. ap (λ (x : ℕ). x * (i + 1)) (same i l))
 
-  seal-same : seal s ≡ seal t
+  pub seal-same : seal s ≡ seal t
   seal-same = rw (firstSum-same, secondSum-same)
 
 -- ---- a sealed block

@@ -16,7 +16,7 @@ ghost use lib.ListN.{length};
 ghost use Rattle.layout.specs.Section.{blocksFor};
 ghost use Rattle.encoding.specs.Encode.{headMarks};
 ghost use Rattle.writer.specs.inner.Put.{put};
-ghost use Rattle.writer.specs.inner.Made.{opening, sealedAt, blockMade, blocksMade, bookMade};
+ghost use Rattle.writer.specs.inner.Made.{fourValues, opening, sealedAt, blockMade, blocksMade, bookMade};
 
 // Both sums in the last four bytes of the block that starts at a place.
 fn seal(b: &mut [u8], at: usize)
@@ -44,23 +44,31 @@ fn head_marks(p: Parameters) -> u32
         + mark_of(margin, 16)
 }
 
-// What block 0 says, in its first 32 bytes.
-fn put_opening(b: &mut [u8], p: Parameters, rows: u32)
+// C, E, F and R.
+fn put_values(b: &mut [u8], p: Parameters)
     requires { ⌜ 512 ≤ length (now b) ⌝ }
-    ensures { λ _. ⌜ now (b .exit) ≡ put (now (b .entry)) 0 (opening p rows) ⌝ }
+    ensures { λ _. ⌜ now (b .exit) ≡ put (now (b .entry)) 8 (fourValues p) ⌝ }
 {
     let cost = p.cost;
     let offset = p.offset;
     let outage = p.outage;
     let requirement = p.requirement;
-    let margin = p.margin;
-    put_letters(b, 0, &RPMB);
-    put_u16(b, 4, 1);
-    put_u16(b, 6, p.year);
     put_value(b, 8, cost);
     put_value(b, 12, offset);
     put_value(b, 16, outage);
     put_value(b, 20, requirement);
+}
+
+// What block 0 says, in its first 32 bytes.
+fn put_opening(b: &mut [u8], p: Parameters, rows: u32)
+    requires { ⌜ 512 ≤ length (now b) ⌝ }
+    ensures { λ _. ⌜ now (b .exit) ≡ put (now (b .entry)) 0 (opening p rows) ⌝ }
+{
+    let margin = p.margin;
+    put_letters(b, 0, &RPMB);
+    put_u16(b, 4, 1);
+    put_u16(b, 6, p.year);
+    put_values(b, p);
     put_u16(b, 24, rows);
     put_u16(b, 26, head_marks(p));
     put_value(b, 28, margin);

@@ -53,7 +53,7 @@ pub(crate) fn put_value(b: &mut [u8], at: usize, v: Value)
 
 // The four letters that open a block.
 pub(crate) fn put_letters(b: &mut [u8], at: usize, letters: &[u8; 4])
-    requires { ⌜ at + 4 ≤ length (now b) ⌝ }
+    requires { ⌜ (at + 4 ≤ length (now b)) × (length (now letters) ≡ 4) ⌝ }
     ensures { λ _. ⌜ now (b .exit) ≡ put (now (b .entry)) at (now (letters .entry)) ⌝ }
 {
     b[at] = letters[0];

@@ -34,6 +34,10 @@ sealedAt b at =
     let s = take 512 (drop at b) in
     put b (at + 508) (u16Bytes (firstSum s) ++ u16Bytes (secondSum s))
 
+-- C, E, F and R
+unfoldable pub fourValues : Parameters → List ℕ
+fourValues p = valueBytes (p .cost) ++ (valueBytes (p .offset) ++ (valueBytes (p .outage) ++ valueBytes (p .requirement)))
+
 -- the first 32 bytes of block 0
 unfoldable pub opening : Parameters → ℕ → List ℕ
 opening p rows =
