@@ -31,15 +31,15 @@ fn no_text() -> OzpText
     }
 }
 
-// 20: the room is too small.
-fn short_room() -> OzpText
-    ensures { λ r. ⌜ r ≡ textRefused 20 0 ⌝ }
+// A refusal.
+pub fn refused(number: u32, place: u32) -> OzpText
+    ensures { λ r. ⌜ r ≡ textRefused number place ⌝ }
 {
     OzpText {
         bytes: NO_AMOUNT,
         kind: 3,
-        number: 20,
-        place: 0,
+        number,
+        place,
     }
 }
 
@@ -51,7 +51,7 @@ pub fn put_text(room: &mut [u8], text: &[u8]) -> OzpText
         return no_text();
     }
     if room.len() < text.len() {
-        return short_room();
+        return refused(20, 0);
     }
     let end = put_bytes(room, 0, text);
     given(end as u64)

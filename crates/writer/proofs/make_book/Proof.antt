@@ -71,7 +71,7 @@ returns-3 c =
     made-rows _ _ _ _ _ _ (search needs)
     (sym (c .before .before .before .before .before .before .before .before .before .before .parameter-fault .ensures) ∙ c .before .before .before .before .before .before .before .before .enum-told .given .1)
     (c .before .before .before .before .before .before .put-book .ensures)
-    (ap (λ (k : ℕ). take k _) (sub-zero _ ∙ c .before .before .before .bytes-for .ensures .0))
+    (ap (λ (k : ℕ). take k (c .before .before .before .before .before .before .put-book .last .0)) (sub-zero _ ∙ c .before .before .before .bytes-for .ensures .0))
     (c .rows-fault .ensures)
 
 pub make-book-spec : {M : Type 1} → statement M
