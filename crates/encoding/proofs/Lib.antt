@@ -1,0 +1,14 @@
+pub mod Cuts
+pub mod Halves
+pub mod Digits
+pub mod Values
+pub mod Sealed
+pub mod Place
+pub mod PlaceRead
+pub mod Head
+pub mod HeadHolds
+pub mod Rows
+pub mod RowsHold
+pub mod Book
+pub mod Form
+pub mod Encoded

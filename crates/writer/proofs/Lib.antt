@@ -1,0 +1,5 @@
+pub mod Puts
+pub mod Fields
+pub mod Raw
+pub mod Books
+pub mod Making
