@@ -51,7 +51,7 @@ fn compare(case: &Case) {
         &mut || done(plain::clear(black_box(book), c, d)),
         &mut || done(plain::clear_tuned(black_box(book), e, f)),
     ]);
-    line(case.name, [library, plain, tuned], case.target);
+    line(case.name, times, case.target);
 }
 
 fn line(name: &str, [library, plain, tuned]: [f64; 3], target: f64) {
