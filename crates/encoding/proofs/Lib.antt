@@ -12,3 +12,7 @@ pub mod RowsHold
 pub mod Book
 pub mod Form
 pub mod Encoded
+pub mod Parts
+pub mod HeadRead
+pub mod RowsRead
+pub mod BookRead

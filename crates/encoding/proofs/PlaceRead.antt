@@ -20,7 +20,7 @@ use Rattle.encoding.specs.Numbers.{zeros}
 use Rattle.encoding.specs.Encode.{placeMarks, placeBytes}
 use Rattle.encoding.proofs.Cuts.{part, part-onto, part-whole}
 use Rattle.encoding.proofs.Digits.{Bytes, pair-at, u32Bytes-at, u64Bytes-at}
-use Rattle.encoding.proofs.Values.{mark-read, valueBytes-read, markOf-mark}
+use Rattle.encoding.proofs.Values.{markOf-read, valueBytes-read}
 
 -- the last four bytes of a place that is used
 record LastBytesRead (s : List ℕ) : Type 0 where
@@ -61,15 +61,7 @@ module _ (s : List ℕ) (whole : length s ≡ 32) (bytes : Bytes s) (used : used
   marks-read : placeMarks (offerOf s) ≡ byte s 28
   unfolding offerOf
   marks-read =
-      let m : ℕ = byte s 28 in
-      omega (
-        arith,
-        last .marks,
-        markOf-mark 0 (valueOf (marked m 0) (u32At s 8)),
-        markOf-mark 1 (valueOf (marked m 1) (u32At s 16)),
-        mark-read m 0 (u32At s 8),
-        mark-read m 1 (u32At s 16),
-      )
+      omega (arith, last .marks, markOf-read (byte s 28) 0 (u32At s 8), markOf-read (byte s 28) 1 (u32At s 16))
 
   last-four : placeMarks (offerOf s) ∷ zeros 3 ≡ part s 28 4
   unfolding zeros

@@ -69,7 +69,7 @@ module _ (v : Value) (marks bit : ℕ) (here : marks / 2 ^ bit % 2 ≡ mark v) w
 
 module _ (marks bit n : ℕ) where
   -- its mark is the bit that was read
-  pub mark-read : mark (valueOf (marked marks bit) n) ≡ marks / 2 ^ bit % 2
+  mark-read : mark (valueOf (marked marks bit) n) ≡ marks / 2 ^ bit % 2
   unfolding marked
   mark-read = own (marks / 2 ^ bit % 2) (mod-lt (marks / 2 ^ bit) (omega arith))
     where
@@ -77,6 +77,9 @@ module _ (marks bit n : ℕ) where
       own zero h = refl
       own (suc zero) h = refl
       own (suc (suc d)) h = absurd (omega arith)
+
+  pub markOf-read : markOf bit (valueOf (marked marks bit) n) ≡ marks / 2 ^ bit % 2 * 2 ^ bit
+  markOf-read = markOf-mark bit (valueOf (marked marks bit) n) ∙ ap (λ (d : ℕ). d * 2 ^ bit) mark-read
 
   -- its bytes are those of the number, where a missing one has zero bytes
   pub valueBytes-read : absentIsZero (marked marks bit) n ≡ true → valueBytes (valueOf (marked marks bit) n) ≡ u32Bytes n
