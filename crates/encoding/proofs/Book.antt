@@ -4,17 +4,17 @@
 -- block 0; a block of offers; the bytes of a row.
 -- Assumes nothing.
 use mathlib.Core.Path.{_≡_, refl, sym, ap, ap₂, _∙_}
-use mathlib.Core.List.{List, [], _∷_, _++_}
+use mathlib.Core.List.{List}
 use Prim.Native.Nat.{ℕ, zero, suc, _+_, _-_, _*_, _/_, _%_, _≤_, _<_}
-use native.Mathlib.Nat.{add-suc, suc-add, add-zero}
+use native.Mathlib.Nat.{add-zero}
 use native.Mathlib.Omega.{arith}
-use lib.ListN.{length, getD, take, drop, length-append, length-take, length-drop}
+use lib.ListN.{length, take, drop, length-append, length-take, length-drop}
 use lib.Seq.{drop-drop}
 use Rattle.values.specs.Contents.{Contents, noOffer, offerAt}
 use Rattle.values.specs.declared.place.Offer.{Offer}
 use Rattle.layout.specs.Blocks.{blockOf, placeOf, rowBytes}
 use Rattle.layout.specs.Section.{blocksFor, rowsHere}
-use Rattle.encoding.specs.Encode.{placeBytes, rowsBytes, sealed, rowBlocks, encode}
+use Rattle.encoding.specs.Encode.{placeBytes, rowBlocks, encode}
 use Rattle.encoding.proofs.Cuts.{part, part-here, part-past, getD-part}
 use Rattle.encoding.proofs.Sealed.{length-sealed}
 use Rattle.encoding.proofs.Head.{headBlock, length-head}
@@ -61,7 +61,7 @@ rowBlocks-at (suc blocks) k offers (suc j) l =
     ∙ part-past (rowsBlock k (take 15 offers)) _ 512 (j * 512) 512 (first-length k offers)
     ∙ rowBlocks-at blocks (suc k) (drop 15 offers) j (omega arith)
     ∙ ap₂ (λ (n : ℕ) (os : List Offer). rowsBlock n (take 15 os)) number
-      (drop-drop (j * 15) 15 offers ∙ ap (λ (at : ℕ). drop at offers) later)
+    (drop-drop (j * 15) 15 offers ∙ ap (λ (at : ℕ). drop at offers) later)
 
 -- ---- the book
 
@@ -86,7 +86,8 @@ module _ (c : Contents) where
   unfolding encode blockOf
   encode-first = part-here firstBlock _ 512 length-first
 
-  pub encode-block : (j : ℕ) → j < blocksFor (length offers) → blockOf (encode c) (1 + j) ≡ rowsBlock (1 + j) (offersHere offers j)
+  pub encode-block : (j : ℕ) → j < blocksFor (length offers)
+      → blockOf (encode c) (1 + j) ≡ rowsBlock (1 + j) (offersHere offers j)
   unfolding encode blockOf
   encode-block j l =
       let further : (1 + j) * 512 ≡ 512 + j * 512 = omega arith in

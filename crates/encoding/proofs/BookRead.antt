@@ -2,10 +2,10 @@
 --
 -- In order: its blocks; block 0; the place of a row; a block of offers; the book.
 -- Assumes nothing.
-use mathlib.Core.Path.{_≡_, refl, sym, ap, ap₂, _∙_}
+use mathlib.Core.Path.{_≡_, sym, ap, ap₂, _∙_}
 use mathlib.Core.Bool.{true}
 use mathlib.Core.List.{List}
-use Prim.Native.Nat.{ℕ, zero, suc, _+_, _*_, _/_, _%_, _≤_, _<_}
+use Prim.Native.Nat.{ℕ, zero, suc, _+_, _*_, _/_, _%_, _<_}
 use native.Mathlib.Omega.{arith}
 use lib.ListN.{length}
 use Rattle.block.specs.Bytes.{byte}
@@ -24,7 +24,7 @@ use Rattle.layout.proofs.Passing.{form-passed-head, form-passed-check, form-pas
 use Rattle.layout.proofs.Passing.{form-passed-blocks, form-passed-row, form-passed-used}
 use Rattle.encoding.specs.Encode.{placeBytes, headBytes, sealed, encode}
 use Rattle.encoding.proofs.Digits.{Bytes}
-use Rattle.encoding.proofs.Parts.{bytes-read, bytes-part, same-blocks}
+use Rattle.encoding.proofs.Parts.{bytes-read, block-bytes, row-bytes, same-blocks}
 use Rattle.encoding.proofs.PlaceRead.{place-read}
 use Rattle.encoding.proofs.HeadRead.{head-back}
 use Rattle.encoding.proofs.RowsRead.{rows-back}
@@ -39,14 +39,13 @@ module _ (b : List ℕ) (bytes : (i : ℕ) → i < length b → byte b i < 256) 
   abbrev offers : List Offer
   offers = contentsOf b .offers
 
+  read : Bytes b
+  read = bytes-read b bytes
+
   -- ---- its blocks
 
   block-whole : (k : ℕ) → k < 1 + blocksFor (offerCount b) → length (blockOf b k) ≡ 512
   block-whole k l = block-length b k (omega (arith, form-passed-blocks b passed))
-
-  block-bytes : (k : ℕ) → Bytes (blockOf b k)
-  unfolding blockOf
-  block-bytes k = bytes-part b (k * 512) 512 (bytes-read b bytes)
 
   block-check : (k : ℕ) → k < 1 + blocksFor (offerCount b) → checkHolds (blockOf b k) ≡ true
   block-check k l = form-passed-check b passed k (omega (arith, form-passed-blocks b passed))
@@ -56,21 +55,17 @@ module _ (b : List ℕ) (bytes : (i : ℕ) → i < length b → byte b i < 256) 
   first-back : firstBlock c ≡ blockOf b 0
   first-back =
       ap₂ (λ (p : Parameters) (n : ℕ). sealed (headBytes p n)) (sym (contents-parameters b)) (sym (contents-count b))
-      ∙ head-back (blockOf b 0) (block-whole 0 (omega arith)) (block-bytes 0) (blockCount b)
-        (form-passed-head b passed) (block-check 0 (omega arith))
+      ∙ head-back (blockOf b 0) (block-whole 0 (omega arith)) (block-bytes b read 0) (blockCount b)
+      (form-passed-head b passed) (block-check 0 (omega arith))
 
   -- ---- a row
-
-  row-bytes : (row : ℕ) → Bytes (rowBytes b 1 row)
-  unfolding rowBytes placeOf
-  row-bytes row = bytes-part (blockOf b (1 + row / 15)) (28 + row % 15 * 32) 32 (block-bytes (1 + row / 15))
 
   row-back : (row : ℕ) → row < offerCount b → placeBytes (offerAt offers row) ≡ rowBytes b 1 row
   unfolding rowOffer
   row-back row l =
       ap placeBytes (contents-offer b row l)
-      ∙ place-read (rowBytes b 1 row) (row-length b 1 row (form-passed-row b passed row l)) (row-bytes row)
-        (form-passed-used b passed row l)
+      ∙ place-read (rowBytes b 1 row) (row-length b 1 row (form-passed-row b passed row l)) (row-bytes b read 1 row)
+      (form-passed-used b passed row l)
 
   -- ---- a block of offers
 
@@ -93,7 +88,7 @@ module _ (b : List ℕ) (bytes : (i : ℕ) → i < length b → byte b i < 256) 
     block-back : rowsBlock (1 + j) here ≡ blockOf b (1 + j)
     block-back =
         rows-back b (blockOf b (1 + j)) (1 + j) here
-        (block-whole (1 + j) (omega arith)) (block-bytes (1 + j)) (offersHere-most offers j)
+        (block-whole (1 + j) (omega arith)) (block-bytes b read (1 + j)) (offersHere-most offers j)
         (ap (rowsHold (offersSection b) (blockOf b (1 + j)) (1 + j)) length-here ∙ form-passed-block b passed j there)
         place-back
         (block-check (1 + j) (omega arith))

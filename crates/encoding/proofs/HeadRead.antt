@@ -1,10 +1,10 @@
 -- A block 0 that holds is what the parameters and the number of offers that it states are written as.
 --
--- In order: what its test says; its marks; each part; the block.
+-- In order: a number bit by bit; what the block's test says; its marks; its parts; the block.
 -- Assumes nothing.
-use mathlib.Core.Path.{_≡_, refl, sym, ap, ap₂, _∙_}
-use mathlib.Core.Bool.{Bool, true, _&&_}
-use mathlib.Core.List.{List, [], _∷_, _++_}
+use mathlib.Core.Path.{_≡_, refl, sym, ap, _∙_}
+use mathlib.Core.Bool.{Bool, true}
+use mathlib.Core.List.{List, [], _∷_}
 use Prim.Native.Nat.{ℕ, _+_, _*_, _/_, _%_, _^_, _≤_, _<_}
 use native.Mathlib.Omega.{arith}
 use lib.ListN.{length}
@@ -99,7 +99,8 @@ module _ (s : List ℕ) where
         (λ i. given 0 8 i + given 1 12 i + given 2 16 i + given 3 20 i + given 4 28 i)
         ∙ bits-all (byte s 26) (read .marks .under)
       where
-        given : (bit at : ℕ) → markOf bit (valueOf (marked (byte s 26) bit) (u32At s at)) ≡ byte s 26 / 2 ^ bit % 2 * 2 ^ bit
+        given : (bit at : ℕ)
+            → markOf bit (valueOf (marked (byte s 26) bit) (u32At s at)) ≡ byte s 26 / 2 ^ bit % 2 * 2 ^ bit
         given bit at = markOf-read (byte s 26) bit (u32At s at)
 
     -- a value's bytes

@@ -1,10 +1,10 @@
 -- Parts of a block from what its tests say of them.
 --
--- In order: the letters; zeros; parts of bytes; two books with the same blocks.
+-- In order: the letters; zeros; a part of bytes, a block and a row; two books with the same blocks.
 -- Assumes nothing.
-use mathlib.Core.Path.{_≡_, refl, sym, ap, ap₂, _∙_}
+use mathlib.Core.Path.{_≡_, sym, ap, _∙_}
 use mathlib.Core.Bool.{Bool, true, _&&_}
-use mathlib.Core.List.{List, [], _∷_, _++_, append-nil}
+use mathlib.Core.List.{List, [], _∷_, append-nil}
 use Prim.Native.Nat.{ℕ, _+_, _*_, _/_, _%_, _≤_, _<_}
 use native.Mathlib.Omega.{arith}
 use lib.ListN.{length, drop, length-take, List·getD-eq-default}
@@ -13,7 +13,7 @@ use lib.Seq.{ext-getD}
 use borrow.Author.Tests.{eqb-true}
 use Rattle.laws.proofs.Cases.{by-order, and-left, and-right}
 use Rattle.block.specs.Bytes.{byte, opensWith, blank}
-use Rattle.layout.specs.Blocks.{blockOf}
+use Rattle.layout.specs.Blocks.{blockOf, placeOf, rowBytes}
 use Rattle.layout.proofs.Places.{blank-at}
 use Rattle.encoding.specs.Numbers.{zeros}
 use Rattle.encoding.proofs.Cuts.{part, part-onto, length-part, getD-part}
@@ -57,7 +57,19 @@ bytes-read s h i =
 pub bytes-part : (s : List ℕ) (at n : ℕ) → Bytes s → Bytes (part s at n)
 bytes-part s at n h =
     bytes-read (part s at n)
-    (λ i l. omega (arith, length-take n (drop at s), getD-part s at n i 0 (omega (arith, length-take n (drop at s))), h (at + i)))
+    (λ i l.
+    let within : i < n = omega (arith, length-take n (drop at s)) in
+    omega (arith, getD-part s at n i 0 within, h (at + i)))
+
+module _ (b : List ℕ) (bytes : Bytes b) where
+  pub block-bytes : (k : ℕ) → Bytes (blockOf b k)
+  unfolding blockOf
+  block-bytes k = bytes-part b (k * 512) 512 bytes
+
+  pub row-bytes : (first row : ℕ) → Bytes (rowBytes b first row)
+  unfolding rowBytes placeOf
+  row-bytes first row =
+      bytes-part (blockOf b (first + row / 15)) (28 + row % 15 * 32) 32 (block-bytes (first + row / 15))
 
 -- ---- blocks
 

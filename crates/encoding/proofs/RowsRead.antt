@@ -2,22 +2,22 @@
 --
 -- In order: what its test says; places that were read; the zeros behind them; the block.
 -- Assumes nothing.
-use mathlib.Core.Path.{_≡_, refl, sym, ap, ap₂, _∙_}
-use mathlib.Core.Bool.{Bool, true, _&&_}
+use mathlib.Core.Path.{_≡_, refl, sym, ap, _∙_}
+use mathlib.Core.Bool.{Bool, true}
 use mathlib.Core.List.{List, [], _∷_, _++_}
-use Prim.Native.Nat.{ℕ, zero, suc, _+_, _-_, _*_, _≤_, _<_}
+use Prim.Native.Nat.{ℕ, suc, _+_, _-_, _*_, _≤_, _<_}
 use native.Mathlib.Omega.{arith}
-use lib.ListN.{length, getD}
+use lib.ListN.{length}
 use lib.Dec.{eqb, ltb}
 use borrow.Author.Tests.{eqb-true}
 use Rattle.laws.specs.Sum.{every}
 use Rattle.laws.proofs.Cases.{and-left, and-right}
-use Rattle.block.specs.Bytes.{byte, u16At, opensWith, blank}
+use Rattle.block.specs.Bytes.{u16At, opensWith, blank}
 use Rattle.block.specs.Check.{checkHolds}
 use Rattle.values.specs.Contents.{offerAt}
 use Rattle.values.specs.declared.place.Offer.{Offer}
 use Rattle.layout.specs.Blocks.{placeOf}
-use Rattle.layout.specs.Section.{placesHold, rowsHold}
+use Rattle.layout.specs.Section.{rowsHold}
 use Rattle.layout.specs.Form.{ofrs, offersLast, offersSection}
 use Rattle.layout.specs.inner.Section.{usedOnly}
 use Rattle.layout.proofs.Places.{places-rest}
@@ -70,8 +70,8 @@ rows-read b s k here e =
     }
 
 module _ (b s : List ℕ) (k : ℕ) (os : List Offer) (whole : length s ≡ 512) (bytes : Bytes s) (few : length os ≤ 15)
-  (holds : rowsHold (offersSection b) s k (length os) ≡ true)
-  (places : (i : ℕ) → i < length os → placeBytes (offerAt os i) ≡ placeOf s i)
+    (holds : rowsHold (offersSection b) s k (length os) ≡ true)
+    (places : (i : ℕ) → i < length os → placeBytes (offerAt os i) ≡ placeOf s i)
   where
     read : RowsRead s k (length os)
     read = rows-read b s k (length os) holds

@@ -1,7 +1,7 @@
 -- What it means for later code that a book passed refusals 1, 2 and 3.
 --
--- In order: a section whose blocks passed; each of the three passed, and what each block holds; the book's length, the number of its offers, and how
--- they fit; where a row's block stands; that the row's own bytes are laid out as a used place.
+-- In order: a section whose blocks passed; each of the three passed; each block's check and layout; the book's length, the
+-- number of its offers, and how they fit; where a row's block stands; that the row's own bytes are laid out as a used place.
 -- Assumes nothing.
 use mathlib.Core.Path.{_≡_}
 use mathlib.Core.Bool.{true}
@@ -60,8 +60,8 @@ module _ (b : List ℕ) (passed : formFault b ≡ Passed) where
   unfolding formFault checkFault
   form-passed-check k l =
       let checks : checkFault b ≡ Passed =
-        andThen-left (checkFault b) (layoutFault b)
-        (andThen-right (lengthFault b) (andThen (checkFault b) (layoutFault b)) passed) in
+      andThen-left (checkFault b) (layoutFault b)
+      (andThen-right (lengthFault b) (andThen (checkFault b) (layoutFault b)) passed) in
       unless-passed (checkHolds (blockOf b k)) 2 k (first-at _ (blockCount b) k checks l)
 
   -- block 0 holds, and so does each offer block
