@@ -5,7 +5,7 @@
 use mathlib.Core.Path.{_≡_, sym, ap, ap₂, _∙_}
 use mathlib.Core.Bool.{true}
 use mathlib.Core.List.{List}
-use Prim.Native.Nat.{ℕ, zero, suc, _+_, _*_, _/_, _%_, _<_}
+use Prim.Native.Nat.{ℕ, _+_, _*_, _/_, _%_, _<_}
 use native.Mathlib.Omega.{arith}
 use lib.ListN.{length}
 use Rattle.block.specs.Bytes.{byte}
@@ -24,13 +24,13 @@ use Rattle.layout.proofs.Passing.{form-passed-head, form-passed-check, form-pas
 use Rattle.layout.proofs.Passing.{form-passed-blocks, form-passed-row, form-passed-used}
 use Rattle.encoding.specs.Encode.{placeBytes, headBytes, sealed, encode}
 use Rattle.encoding.proofs.Digits.{Bytes}
-use Rattle.encoding.proofs.Parts.{bytes-read, block-bytes, row-bytes, same-blocks}
+use Rattle.encoding.proofs.Parts.{bytes-read, block-bytes, row-bytes}
 use Rattle.encoding.proofs.PlaceRead.{place-read}
 use Rattle.encoding.proofs.HeadRead.{head-back}
 use Rattle.encoding.proofs.RowsRead.{rows-back}
 use Rattle.encoding.proofs.Rows.{rowsBlock}
 use Rattle.encoding.proofs.Book.{offersHere, length-offersHere, offersHere-most, offer-here}
-use Rattle.encoding.proofs.Book.{firstBlock, encode-length, encode-first, encode-block}
+use Rattle.encoding.proofs.Book.{firstBlock, encode-assembled}
 
 module _ (b : List ℕ) (bytes : (i : ℕ) → i < length b → byte b i < 256) (passed : formFault b ≡ Passed) where
   abbrev c : Contents
@@ -95,15 +95,10 @@ module _ (b : List ℕ) (bytes : (i : ℕ) → i < length b → byte b i < 256) 
 
   -- ---- the book
 
-  each-back : (k : ℕ) → k < 1 + blocksFor (offerCount b) → blockOf (encode c) k ≡ blockOf b k
-  each-back zero l = encode-first c ∙ first-back
-  each-back (suc j) l =
-      let number : suc j ≡ 1 + j = omega arith in
-      let there : j < blocksFor (offerCount b) = omega arith in
-      rw number (encode-block c j (omega (arith, contents-count b)) ∙ block-back j there)
-
   -- Writing back what was read from a book that passes 1, 2 and 3 gives the same bytes.
   pub encode-read : encode (contentsOf b) ≡ b
   encode-read =
-      same-blocks (encode c) b (1 + blocksFor (offerCount b))
-      (omega (arith, encode-length c, contents-count b)) (form-passed-blocks b passed) each-back
+      encode-assembled c b
+      (omega (arith, form-passed-blocks b passed, contents-count b))
+      first-back
+      (λ j l. block-back j (omega (arith, contents-count b)))
