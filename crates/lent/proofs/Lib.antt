@@ -1,2 +1,4 @@
 pub mod Finishing
 pub mod Writes
+pub mod Written
+pub mod Copied
