@@ -2,3 +2,4 @@ pub mod Finishing
 pub mod Writes
 pub mod Written
 pub mod Copied
+pub mod Decided

@@ -4,3 +4,4 @@ pub mod Raw
 pub mod Books
 pub mod Making
 pub mod Ranges
+pub mod Decided
