@@ -1,22 +1,23 @@
 -- The book that says given contents, cut into its blocks again.
 --
 -- In order: the offers of a block; how long the blocks of offers are, and which stands at which place; the length of the book;
--- block 0; a block of offers; the bytes of a row.
+-- block 0; a block of offers; the bytes of a row; the book put together from its blocks.
 -- Assumes nothing.
 use mathlib.Core.Path.{_≡_, refl, sym, ap, ap₂, _∙_}
-use mathlib.Core.List.{List, [], _∷_, _++_}
-use Prim.Native.Nat.{ℕ, zero, suc, _+_, _-_, _*_, _/_, _%_, _≤_, _<_}
-use native.Mathlib.Nat.{add-suc, suc-add, add-zero}
+use mathlib.Core.List.{List}
+use Prim.Native.Nat.{ℕ, zero, suc, _+_, _*_, _/_, _%_, _≤_, _<_}
+use native.Mathlib.Nat.{add-zero}
 use native.Mathlib.Omega.{arith}
-use lib.ListN.{length, getD, take, drop, length-append, length-take, length-drop}
+use lib.ListN.{length, take, drop, length-append, length-take, length-drop}
 use lib.Seq.{drop-drop}
 use Rattle.values.specs.Contents.{Contents, noOffer, offerAt}
 use Rattle.values.specs.declared.place.Offer.{Offer}
 use Rattle.layout.specs.Blocks.{blockOf, placeOf, rowBytes}
 use Rattle.layout.specs.Section.{blocksFor, rowsHere}
-use Rattle.encoding.specs.Encode.{placeBytes, rowsBytes, sealed, rowBlocks, encode}
+use Rattle.encoding.specs.Encode.{placeBytes, rowBlocks, encode}
 use Rattle.encoding.proofs.Cuts.{part, part-here, part-past, getD-part}
 use Rattle.encoding.proofs.Sealed.{length-sealed}
+use Rattle.encoding.proofs.Parts.{same-blocks}
 use Rattle.encoding.proofs.Head.{headBlock, length-head}
 use Rattle.encoding.proofs.Rows.{rowsBlock, length-block, place-written}
 
@@ -61,7 +62,7 @@ rowBlocks-at (suc blocks) k offers (suc j) l =
     ∙ part-past (rowsBlock k (take 15 offers)) _ 512 (j * 512) 512 (first-length k offers)
     ∙ rowBlocks-at blocks (suc k) (drop 15 offers) j (omega arith)
     ∙ ap₂ (λ (n : ℕ) (os : List Offer). rowsBlock n (take 15 os)) number
-      (drop-drop (j * 15) 15 offers ∙ ap (λ (at : ℕ). drop at offers) later)
+    (drop-drop (j * 15) 15 offers ∙ ap (λ (at : ℕ). drop at offers) later)
 
 -- ---- the book
 
@@ -86,7 +87,8 @@ module _ (c : Contents) where
   unfolding encode blockOf
   encode-first = part-here firstBlock _ 512 length-first
 
-  pub encode-block : (j : ℕ) → j < blocksFor (length offers) → blockOf (encode c) (1 + j) ≡ rowsBlock (1 + j) (offersHere offers j)
+  pub encode-block : (j : ℕ) → j < blocksFor (length offers)
+      → blockOf (encode c) (1 + j) ≡ rowsBlock (1 + j) (offersHere offers j)
   unfolding encode blockOf
   encode-block j l =
       let further : (1 + j) * 512 ≡ 512 + j * 512 = omega arith in
@@ -108,3 +110,16 @@ module _ (c : Contents) where
       ap (λ (s : List ℕ). placeOf s i) (encode-block j (omega arith))
       ∙ place-written (1 + j) (offersHere offers j) i (omega (arith, length-offersHere offers j))
       ∙ ap placeBytes (offer-here j i (omega arith) ∙ ap (offerAt offers) here)
+
+  -- A book of so many blocks that are those of these contents is the one that says them.
+  pub encode-assembled : (b : List ℕ) → length b ≡ 512 * (1 + blocksFor (length offers)) → firstBlock ≡ blockOf b 0
+      → ((j : ℕ) → j < blocksFor (length offers) → rowsBlock (1 + j) (offersHere offers j) ≡ blockOf b (1 + j))
+      → encode c ≡ b
+  encode-assembled b whole first rest = same-blocks (encode c) b (1 + blocksFor (length offers)) encode-length whole each
+    where
+      each : (k : ℕ) → k < 1 + blocksFor (length offers) → blockOf (encode c) k ≡ blockOf b k
+      each zero l = encode-first ∙ first
+      each (suc j) l =
+          let number : suc j ≡ 1 + j = omega arith in
+          let there : j < blocksFor (length offers) = omega arith in
+          rw number (encode-block j there ∙ rest j there)

@@ -1,15 +1,15 @@
 -- Numbers and the bytes that they are written as, each from the other.
 --
--- In order: a number read from its bytes, by width; the bytes of a part from the number that it holds, by width; bytes of zero.
+-- In order: a number read from its bytes, by width; a number in the second of two lists; the bounds of a number that is read, and
+-- the bytes of a part from the number that it holds, by width; bytes of zero.
 -- Assumes nothing.
 use mathlib.Core.Path.{_≡_, refl, sym, ap, ap₂, _∙_}
-use mathlib.Core.Bool.{true}
 use mathlib.Core.List.{List, [], _∷_, _++_, append-assoc}
 use Prim.Native.Nat.{ℕ, zero, suc, _+_, _*_, _/_, _%_, _≤_, _<_}
 use native.Mathlib.Nat.{mod-eq-of-lt, add-assoc}
 use native.Mathlib.Numerals.{add-one}
 use native.Mathlib.Omega.{arith}
-use lib.ListN.{length, getD, take, drop}
+use lib.ListN.{length}
 use lib.Seq.{drop-cons}
 use Rattle.block.specs.Bytes.{byte, u16At, u32At, u64At}
 use Rattle.encoding.specs.Numbers.{u16Bytes, u32Bytes, u64Bytes, zeros}
@@ -68,13 +68,18 @@ pub pair-at : (s : List ℕ) (at : ℕ) → at + 2 ≤ length s → part s at 2 
 pair-at s at h = rw (drop-cons s at 0 (omega arith), drop-cons s (suc at) 0 (omega arith), add-one at)
 
 module _ (s : List ℕ) (bytes : Bytes s) where
+  -- what a number read is less than, by width
   pub u16At-most : (at : ℕ) → u16At s at < 65536
   unfolding u16At
   u16At-most at = omega (arith, bytes at, bytes (at + 1))
 
-  u32At-most : (at : ℕ) → u32At s at < 4294967296
+  pub u32At-most : (at : ℕ) → u32At s at < 4294967296
   unfolding u32At
   u32At-most at = omega (arith, u16At-most at, u16At-most (at + 2))
+
+  pub u64At-most : (at : ℕ) → u64At s at < 18446744073709551616
+  unfolding u64At
+  u64At-most at = omega (arith, u32At-most at, u32At-most (at + 4))
 
   pub u16Bytes-at : (at : ℕ) → at + 2 ≤ length s → u16Bytes (u16At s at) ≡ part s at 2
   unfolding u16At

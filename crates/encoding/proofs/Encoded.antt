@@ -2,8 +2,7 @@
 --
 -- In order: the offers; the contents; two contents.
 -- Assumes nothing.
-use mathlib.Core.Path.{_≡_, refl, sym, ap, ap₂, _∙_}
-use mathlib.Core.List.{List}
+use mathlib.Core.Path.{_≡_, sym, ap, _∙_}
 use Prim.Native.Nat.{ℕ, _<_}
 use lib.ListN.{length}
 use lib.Seq.{ext-getD}
@@ -11,7 +10,6 @@ use Rattle.values.specs.Place.{offerOf}
 use Rattle.values.specs.Head.{parametersOf}
 use Rattle.values.specs.Contents.{Contents, noOffer, offerAt}
 use Rattle.layout.specs.Read.{rowOffer, contentsOf}
-use Rattle.layout.specs.Form.{offerCount}
 use Rattle.layout.proofs.Contained.{contents-parameters, contents-count, contents-offer}
 use Rattle.encoding.specs.Encode.{encode}
 use Rattle.encoding.specs.inner.Fits.{Fits}
@@ -34,7 +32,8 @@ module _ (c : Contents) (fits : Fits c) where
 
   offers-back : contentsOf (encode c) .offers ≡ c .offers
   offers-back =
-      let many : length (contentsOf (encode c) .offers) ≡ length (c .offers) = sym (contents-count (encode c)) ∙ encode-count c fits in
+      let many : length (contentsOf (encode c) .offers) ≡ length (c .offers) =
+      sym (contents-count (encode c)) ∙ encode-count c fits in
       ext-getD noOffer (contentsOf (encode c) .offers) (c .offers) many
       (λ row l.
       let there : row < length (c .offers) = rw many at l in

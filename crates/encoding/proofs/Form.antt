@@ -1,17 +1,17 @@
 -- The book that says given contents passes refusals 1, 2 and 3.
 --
--- In order: a row of tests that all pass; a law for each block of a book; the length; the checks; the layout; the form.
+-- In order: a row of tests that all pass; the checks; the length; the number of offers; the layout; the form.
 -- Assumes nothing.
-use mathlib.Core.Path.{_≡_, refl, sym, ap, ap₂, _∙_}
-use mathlib.Core.Bool.{Bool, true, _&&_}
+use mathlib.Core.Path.{_≡_, sym, ap, ap₂, _∙_}
+use mathlib.Core.Bool.{true}
 use mathlib.Core.List.{List}
-use Prim.Native.Nat.{ℕ, zero, suc, _+_, _-_, _*_, _/_, _%_, _≤_, _<_}
+use Prim.Native.Nat.{ℕ, zero, suc, _+_, _*_, _%_, _<_}
 use native.Mathlib.Omega.{arith}
 use lib.ListN.{length}
 use borrow.Author.Tests.{le-leb, eq-eqb}
 use Rattle.laws.proofs.Cases.{and-true}
 use Rattle.block.specs.Check.{checkHolds}
-use Rattle.values.specs.Refusals.{unless, andThen, first, wrongLength, wrongCheck, wrongLayout}
+use Rattle.values.specs.Refusals.{first, wrongLength, wrongCheck, wrongLayout}
 use Rattle.values.specs.Head.{offersIn}
 use Rattle.values.specs.Contents.{Contents, offerAt}
 use Rattle.values.specs.declared.Verdict.{Verdict}
@@ -27,9 +27,10 @@ use Rattle.encoding.specs.inner.Fits.{OfferFits, Fits}
 use Rattle.encoding.proofs.Sealed.{sealed-holds}
 use Rattle.encoding.proofs.Head.{length-head}
 use Rattle.encoding.proofs.HeadHolds.{read-count, head-holds}
-use Rattle.encoding.proofs.Rows.{rowsBlock, check-block}
+use Rattle.encoding.proofs.Rows.{check-block}
 use Rattle.encoding.proofs.RowsHold.{rows-hold}
-use Rattle.encoding.proofs.Book.{offersHere, length-offersHere, offersHere-most, offer-here, encode-length, encode-first, encode-block}
+use Rattle.encoding.proofs.Book.{offersHere, length-offersHere, offersHere-most, offer-here}
+use Rattle.encoding.proofs.Book.{encode-length, encode-first, encode-block}
 
 -- where each of a row of tests passes, all do
 first-all : (test : ℕ → Verdict) (n : ℕ) → ((i : ℕ) → i < n → test i ≡ Passed) → first test n ≡ Passed
@@ -78,7 +79,7 @@ module _ (c : Contents) where
 
     -- The number of offers that the book states is the number of those that were written.
     pub encode-count : offerCount b ≡ rows
-    encode-count = ap (λ (s : List ℕ). offersIn s) (encode-first c) ∙ read-count (c .parameters) rows (fits .parameters) (fits .few)
+    encode-count = ap offersIn (encode-first c) ∙ read-count (c .parameters) rows (fits .parameters) (fits .few)
 
     -- ---- the layout
 
@@ -95,7 +96,7 @@ module _ (c : Contents) where
     block-part j l =
         let os : List Offer = offersHere (c .offers) j in
         let here : rowsHere (offerCount b) j ≡ length os =
-          ap (λ (n : ℕ). rowsHere n j) encode-count ∙ sym (length-offersHere (c .offers) j) in
+        ap (λ (n : ℕ). rowsHere n j) encode-count ∙ sym (length-offersHere (c .offers) j) in
         unless-true _ (wrongLayout (1 + j))
         (ap₂ (λ (s : List ℕ) (n : ℕ). rowsHold (offersSection b) s (1 + j) n) (encode-block c j l) here
         ∙ rows-hold (1 + j) os (fits-here j) b (omega (arith, fits .few)) (offersHere-most (c .offers) j))

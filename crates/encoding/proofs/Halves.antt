@@ -3,10 +3,10 @@
 -- In order: the low and the high digit; by width, the bytes of two halves, and that the bytes of any number tell it modulo their
 -- base.
 -- Assumes nothing.
-use mathlib.Core.Path.{_≡_, refl, sym, ap, ap₂, _∙_}
-use mathlib.Core.List.{List, [], _∷_, _++_}
-use Prim.Native.Nat.{ℕ, zero, suc, _+_, _*_, _/_, _%_, _≤_, _<_}
-use native.Mathlib.Nat.{add-mul-mod-self-right, add-mul-div-right, mod-eq-of-lt, div-eq-of-lt, zero-add, le-trans}
+use mathlib.Core.Path.{_≡_, sym, ap, ap₂, _∙_}
+use mathlib.Core.List.{[], _∷_, _++_}
+use Prim.Native.Nat.{ℕ, _+_, _*_, _/_, _%_, _<_}
+use native.Mathlib.Nat.{add-mul-mod-self-right, add-mul-div-right, mod-eq-of-lt, div-eq-of-lt, zero-add}
 use native.Mathlib.Omega.{arith}
 use Rattle.encoding.specs.Numbers.{u16Bytes, u32Bytes, u64Bytes}
 

@@ -1,23 +1,19 @@
--- Block 0: the parameters and the number of offers read back from the bytes that they are written as.
+-- Block 0 as it is written: its numbers and its marks.
 --
--- In order: the block as numbers, up to its zeros; its length; its marks; each field; the parameters.
+-- In order: the block as numbers, up to its zeros; its length; the sealed block; each bit of its marks.
 -- Assumes nothing.
-use mathlib.Core.Path.{_≡_, refl, sym, ap, ap₂, _∙_}
-use mathlib.Core.Bool.{true, _&&_}
+use mathlib.Core.Path.{_≡_, ap, _∙_}
 use mathlib.Core.List.{List, [], _∷_, _++_, append-assoc}
 use Prim.Native.Nat.{ℕ, _+_, _*_, _/_, _%_, _^_, _≤_, _<_}
 use native.Mathlib.Omega.{arith}
 use lib.ListN.{length, length-append}
-use Rattle.block.specs.Bytes.{byte, u16At, u32At}
-use Rattle.values.specs.Head.{parametersOf, offersIn}
-use Rattle.values.specs.declared.Value.{Value}
+use Rattle.block.specs.Bytes.{byte}
 use Rattle.values.specs.declared.head.Parameters.{Parameters}
 use Rattle.layout.specs.Layout.{rpmb}
 use Rattle.encoding.specs.Numbers.{u16Bytes, u32Bytes, zeros}
 use Rattle.encoding.specs.Encode.{headMarks, headBytes, sealed}
-use Rattle.encoding.specs.inner.Fits.{ParametersFit, ValueFits}
-use Rattle.encoding.proofs.Digits.{u16At-bytes, u32At-bytes, length-zeros}
-use Rattle.encoding.proofs.Values.{written, mark, valueBytes-written, written-fits, mark-most, markOf-mark, value-back}
+use Rattle.encoding.proofs.Digits.{length-zeros}
+use Rattle.encoding.proofs.Values.{written, mark, valueBytes-written, mark-most, markOf-mark}
 use Rattle.encoding.proofs.Sealed.{seal}
 
 module _ (p : Parameters) (offers : ℕ) where
@@ -77,7 +73,8 @@ module _ (p : Parameters) (offers : ℕ) where
         markOf-mark 4 (p .margin),
       )
 
-  marks-most : (mark (p .cost) ≤ 1) × (mark (p .offset) ≤ 1) × (mark (p .outage) ≤ 1) × (mark (p .requirement) ≤ 1) × (mark (p .margin) ≤ 1)
+  marks-most : (mark (p .cost) ≤ 1) × (mark (p .offset) ≤ 1) × (mark (p .outage) ≤ 1) × (mark (p .requirement) ≤ 1)
+      × (mark (p .margin) ≤ 1)
   marks-most =
       (mark-most (p .cost), mark-most (p .offset), mark-most (p .outage), mark-most (p .requirement), mark-most (p .margin))
 

@@ -2,12 +2,11 @@
 --
 -- In order: each field; the parameters; the number of offers; the tests of the layout.
 -- Assumes nothing.
-use mathlib.Core.Path.{_≡_, refl, sym, ap, ap₂, _∙_}
-use mathlib.Core.Bool.{true, _&&_}
-use mathlib.Core.List.{List, [], _∷_, _++_}
-use Prim.Native.Nat.{ℕ, _+_, _*_, _/_, _%_, _≤_, _<_}
+use mathlib.Core.Path.{_≡_, refl, ap, _∙_}
+use mathlib.Core.Bool.{true}
+use mathlib.Core.List.{List, [], _++_}
+use Prim.Native.Nat.{ℕ, _+_, _≤_}
 use native.Mathlib.Omega.{arith}
-use lib.ListN.{length}
 use lib.Dec.{eqb}
 use borrow.Author.Tests.{lt-ltb, le-leb, eq-eqb}
 use Rattle.laws.specs.Sum.{every}
@@ -36,7 +35,8 @@ module _ (p : Parameters) (offers : ℕ) where
   opened = headNumbers p offers ++ headRest p offers
 
   -- a value whose number stands at a place of the block
-  value-at : (v : Value) (at : ℕ) → ValueFits v → u32At opened at ≡ u32At (u32Bytes (written v) ++ []) 0 → u32At s at ≡ written v
+  value-at : (v : Value) (at : ℕ) → ValueFits v → u32At opened at ≡ u32At (u32Bytes (written v) ++ []) 0
+      → u32At s at ≡ written v
   value-at v at h here =
       ap (λ (t : List ℕ). u32At t at) (head-opened p offers) ∙ here ∙ u32At-bytes (written v) [] (written-fits v h)
 
@@ -69,13 +69,13 @@ module _ (p : Parameters) (offers : ℕ) where
     pub read-head : parametersOf s ≡ p
     unfolding parametersOf
     read-head = λ i. record {
-          year = year-at i;
-          cost = value-back (p .cost) (byte s 26) 0 (cost-marked p offers) cost-at i;
-          offset = value-back (p .offset) (byte s 26) 1 (offset-marked p offers) offset-at i;
-          outage = value-back (p .outage) (byte s 26) 2 (outage-marked p offers) outage-at i;
-          requirement = value-back (p .requirement) (byte s 26) 3 (requirement-marked p offers) requirement-at i;
-          margin = value-back (p .margin) (byte s 26) 4 (margin-marked p offers) margin-at i;
-        }
+      year = year-at i;
+      cost = value-back (p .cost) (byte s 26) 0 (cost-marked p offers) cost-at i;
+      offset = value-back (p .offset) (byte s 26) 1 (offset-marked p offers) offset-at i;
+      outage = value-back (p .outage) (byte s 26) 2 (outage-marked p offers) outage-at i;
+      requirement = value-back (p .requirement) (byte s 26) 3 (requirement-marked p offers) requirement-at i;
+      margin = value-back (p .margin) (byte s 26) 4 (margin-marked p offers) margin-at i;
+    }
 
     marks-hold : headMarksHold s ≡ true
     unfolding headMarksHold

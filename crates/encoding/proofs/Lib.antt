@@ -3,12 +3,17 @@ pub mod Halves
 pub mod Digits
 pub mod Values
 pub mod Sealed
+pub mod Parts
 pub mod Place
 pub mod PlaceRead
 pub mod Head
 pub mod HeadHolds
+pub mod HeadRead
 pub mod Rows
 pub mod RowsHold
+pub mod RowsRead
 pub mod Book
 pub mod Form
 pub mod Encoded
+pub mod ReadFits
+pub mod BookRead

@@ -2,10 +2,10 @@
 --
 -- In order: what its test says; its marks; its last four bytes; the place.
 -- Assumes nothing.
-use mathlib.Core.Path.{_≡_, refl, sym, ap, ap₂, _∙_}
+use mathlib.Core.Path.{_≡_, sym, ap, _∙_}
 use mathlib.Core.Bool.{Bool, true, _&&_}
-use mathlib.Core.List.{List, [], _∷_, _++_}
-use Prim.Native.Nat.{ℕ, _+_, _*_, _/_, _%_, _≤_, _<_}
+use mathlib.Core.List.{List, [], _∷_}
+use Prim.Native.Nat.{ℕ, _+_, _≤_}
 use native.Mathlib.Omega.{arith}
 use lib.ListN.{length}
 use lib.Dec.{eqb, leb}
@@ -16,11 +16,11 @@ use Rattle.values.specs.Values.{marked, valueOf, absentIsZero}
 use Rattle.values.specs.Place.{offerOf}
 use Rattle.layout.specs.Section.{lastHolds, usedHolds}
 use Rattle.layout.specs.Form.{offersLast}
-use Rattle.encoding.specs.Numbers.{zeros}
+use Rattle.encoding.specs.Numbers.{zeros, valueBytes}
 use Rattle.encoding.specs.Encode.{placeMarks, placeBytes}
 use Rattle.encoding.proofs.Cuts.{part, part-onto, part-whole}
 use Rattle.encoding.proofs.Digits.{Bytes, pair-at, u32Bytes-at, u64Bytes-at}
-use Rattle.encoding.proofs.Values.{mark-read, valueBytes-read, markOf-mark}
+use Rattle.encoding.proofs.Values.{markOf-read, valueBytes-read}
 
 -- the last four bytes of a place that is used
 record LastBytesRead (s : List ℕ) : Type 0 where
@@ -53,23 +53,23 @@ module _ (s : List ℕ) (whole : length s ≡ 32) (bytes : Bytes s) (used : used
   last = last-read s (and-left (lastHolds offersLast s) _ used)
 
   -- a value that is missing has zero bytes
-  both-absent : absentIsZero (marked (byte s 28) 0) (u32At s 8) && absentIsZero (marked (byte s 28) 1) (u32At s 16) ≡ true
+  abbrev absent : ℕ → ℕ → Bool
+  absent bit at = absentIsZero (marked (byte s 28) bit) (u32At s at)
+
+  both-absent : absent 0 8 && absent 1 16 ≡ true
   unfolding usedHolds
   both-absent = and-right (lastHolds offersLast s) _ used
+
+  -- so the bytes of a value are those that were read
+  value-part : (bit at : ℕ) → at + 4 ≤ 32 → absent bit at ≡ true
+      → valueBytes (valueOf (marked (byte s 28) bit) (u32At s at)) ≡ part s at 4
+  value-part bit at h e = valueBytes-read (byte s 28) bit (u32At s at) e ∙ u32Bytes-at s bytes at (omega arith)
 
   -- the marks that are written are those that were read
   marks-read : placeMarks (offerOf s) ≡ byte s 28
   unfolding offerOf
   marks-read =
-      let m : ℕ = byte s 28 in
-      omega (
-        arith,
-        last .marks,
-        markOf-mark 0 (valueOf (marked m 0) (u32At s 8)),
-        markOf-mark 1 (valueOf (marked m 1) (u32At s 16)),
-        mark-read m 0 (u32At s 8),
-        mark-read m 1 (u32At s 16),
-      )
+      omega (arith, last .marks, markOf-read (byte s 28) 0 (u32At s 8), markOf-read (byte s 28) 1 (u32At s 16))
 
   last-four : placeMarks (offerOf s) ∷ zeros 3 ≡ part s 28 4
   unfolding zeros
@@ -83,10 +83,9 @@ module _ (s : List ℕ) (whole : length s ≡ 32) (bytes : Bytes s) (used : used
   place-read =
       part-onto s 0 4 28 (u32Bytes-at s bytes 0 (omega arith))
       (part-onto s 4 4 24 (u32Bytes-at s bytes 4 (omega arith))
-      (part-onto s 8 4 20 (valueBytes-read (byte s 28) 0 (u32At s 8) (and-left _ _ both-absent) ∙ u32Bytes-at s bytes 8 (omega arith))
+      (part-onto s 8 4 20 (value-part 0 8 (omega arith) (and-left _ _ both-absent))
       (part-onto s 12 4 16 (u32Bytes-at s bytes 12 (omega arith))
-      (part-onto s 16 4 12
-      (valueBytes-read (byte s 28) 1 (u32At s 16) (and-right (absentIsZero (marked (byte s 28) 0) (u32At s 8)) _ both-absent) ∙ u32Bytes-at s bytes 16 (omega arith))
+      (part-onto s 16 4 12 (value-part 1 16 (omega arith) (and-right (absent 0 8) _ both-absent))
       (part-onto s 20 8 4 (u64Bytes-at s bytes 20 (omega arith)) last-four)))))
       ∙ ap (part s 0) (sym whole)
       ∙ part-whole s

@@ -1,25 +1,23 @@
--- A block of rows as it is written: where its places stand, and that its layout holds.
+-- A block of rows as it is written: where its places stand, how long it is, and that its check holds.
 --
--- In order: the block up to its places, and behind them; its length; a place of it; bytes of zero; the tests of the layout.
+-- In order: places one after another; the block up to its places, and behind them; a place of it; its length and its check.
 -- Assumes nothing.
 use mathlib.Core.Path.{_≡_, refl, sym, ap, ap₂, _∙_}
-use mathlib.Core.Bool.{true, _&&_}
+use mathlib.Core.Bool.{true}
 use mathlib.Core.List.{List, [], _∷_, _++_, append-assoc}
-use Prim.Native.Nat.{ℕ, zero, suc, _+_, _-_, _*_, _/_, _%_, _≤_, _<_}
+use Prim.Native.Nat.{ℕ, zero, suc, _+_, _-_, _*_, _≤_, _<_}
 use native.Mathlib.Nat.{suc-mul, add-comm}
 use native.Mathlib.Omega.{arith}
-use lib.ListN.{length, getD, length-append}
-use lib.Dec.{eqb}
-use borrow.Author.Tests.{lt-ltb, le-leb, eq-eqb}
+use lib.ListN.{length, length-append}
 use Rattle.block.specs.Check.{checkHolds}
 use Rattle.values.specs.declared.place.Offer.{Offer}
-use Rattle.values.specs.Contents.{noOffer, offerAt}
+use Rattle.values.specs.Contents.{offerAt}
 use Rattle.layout.specs.Blocks.{placeOf}
 use Rattle.layout.specs.Form.{ofrs}
 use Rattle.encoding.specs.Numbers.{u16Bytes, zeros}
 use Rattle.encoding.specs.Encode.{placeBytes, placesBytes, rowsBytes, sealed}
-use Rattle.encoding.proofs.Cuts.{part, part-here, part-past, getD-past}
-use Rattle.encoding.proofs.Digits.{length-zeros, byte-zeros}
+use Rattle.encoding.proofs.Cuts.{part, part-here, part-past}
+use Rattle.encoding.proofs.Digits.{length-zeros}
 use Rattle.encoding.proofs.Sealed.{seal, length-sealed, sealed-holds}
 use Rattle.encoding.proofs.Place.{length-place}
 
@@ -39,7 +37,9 @@ pub place-of-row : (os : List Offer) (q : List ℕ) (i : ℕ) → i < length os
     → part (placesBytes os ++ q) (i * 32) 32 ≡ placeBytes (offerAt os i)
 unfolding placesBytes
 place-of-row [] q i l = absurd (omega arith)
-place-of-row (o ∷ os) q zero l = ap (λ (t : List ℕ). part t 0 32) (append-assoc (placeBytes o) (placesBytes os) q) ∙ part-here (placeBytes o) (placesBytes os ++ q) 32 (length-place o)
+place-of-row (o ∷ os) q zero l =
+    ap (λ (t : List ℕ). part t 0 32) (append-assoc (placeBytes o) (placesBytes os) q)
+    ∙ part-here (placeBytes o) (placesBytes os ++ q) 32 (length-place o)
 place-of-row (o ∷ os) q (suc i) l =
     let further : suc i * 32 ≡ 32 + i * 32 = omega arith in
     ap₂ (λ (t : List ℕ) (at : ℕ). part t at 32) (append-assoc (placeBytes o) (placesBytes os) q) further

@@ -1,10 +1,10 @@
 -- A block of rows as it is written is laid out as a block of offers has to be.
 --
--- In order: its letters, its number and its count; the zeros before its places; its used places; the zeros behind them; the block.
+-- In order: its letters, its number and its count; the zeros before its places and behind the used ones; its places; the block.
 -- Assumes nothing.
-use mathlib.Core.Path.{_≡_, refl, sym, ap, ap₂, _∙_}
-use mathlib.Core.Bool.{Bool, true, _&&_}
-use mathlib.Core.List.{List, [], _∷_, _++_}
+use mathlib.Core.Path.{_≡_, ap, ap₂, _∙_}
+use mathlib.Core.Bool.{true}
+use mathlib.Core.List.{List, [], _++_}
 use Prim.Native.Nat.{ℕ, _+_, _-_, _*_, _≤_, _<_}
 use native.Mathlib.Omega.{arith}
 use lib.ListN.{length}
@@ -28,7 +28,8 @@ use Rattle.encoding.proofs.Cuts.{getD-past}
 use Rattle.encoding.proofs.Digits.{u16At-bytes, byte-zeros}
 use Rattle.encoding.proofs.Sealed.{seal}
 use Rattle.encoding.proofs.Place.{place-used}
-use Rattle.encoding.proofs.Rows.{rowsOpening, unused, rowsBlock, length-opening, length-places, rows-opened, place-written}
+use Rattle.encoding.proofs.Rows.{rowsOpening, unused, rowsBlock, length-opening, length-places}
+use Rattle.encoding.proofs.Rows.{rows-opened, place-written}
 
 module _ (k : ℕ) (os : List Offer) where
   abbrev s : List ℕ

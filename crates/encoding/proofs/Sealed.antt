@@ -1,12 +1,12 @@
 -- A block sealed by its two sums.
 --
--- In order: its length and its bytes; the sums of lists that agree in bytes 0 to 507; the check of a sealed block holds; a block
--- whose check holds is its first 508 bytes, sealed.
+-- In order: the sums of lists that agree in bytes 0 to 507; a sealed block's length, its bytes and its check; a block whose check
+-- holds.
 -- Assumes nothing.
-use mathlib.Core.Path.{_≡_, refl, sym, ap, ap₂, _∙_}
+use mathlib.Core.Path.{_≡_, refl, sym, ap, _∙_}
 use mathlib.Core.Bool.{true}
-use mathlib.Core.List.{List, [], _∷_, _++_}
-use Prim.Native.Nat.{ℕ, _+_, _*_, _%_, _≤_, _<_}
+use mathlib.Core.List.{List, [], _++_}
+use Prim.Native.Nat.{ℕ, _+_, _*_, _%_, _<_}
 use native.Mathlib.Nat.{zero-add}
 use native.Mathlib.Omega.{arith}
 use lib.ListN.{length, length-append, List·getD-append}
@@ -57,7 +57,10 @@ module _ (s : List ℕ) (whole : length s ≡ 508) where
 
   second-stored : u16At (sealed s) 510 ≡ secondSum s % 65536
   unfolding sealed u16Bytes
-  second-stored = u16At-past s (seal s) 508 2 whole ∙ u16At-past (u16Bytes (firstSum s)) (u16Bytes (secondSum s) ++ []) 2 0 refl ∙ u16At-kept (secondSum s) []
+  second-stored =
+      u16At-past s (seal s) 508 2 whole
+      ∙ u16At-past (u16Bytes (firstSum s)) (u16Bytes (secondSum s) ++ []) 2 0 refl
+      ∙ u16At-kept (secondSum s) []
 
   -- The check of a sealed block holds.
   pub sealed-holds : checkHolds (sealed s) ≡ true
@@ -74,7 +77,7 @@ sealed-part s whole bytes holds =
     part-onto s 0 508 4 refl
     (seal-same (part s 0 508) s (λ i l. getD-part s 0 508 i 0 l ∙ ap (byte s) (zero-add i))
     ∙ part-onto s 508 2 2
-      (sym (u16Bytes-kept (firstSum s)) ∙ ap u16Bytes (check-first s holds) ∙ u16Bytes-at s bytes 508 (omega arith))
-      (sym (u16Bytes-kept (secondSum s)) ∙ ap u16Bytes (check-second s holds) ∙ u16Bytes-at s bytes 510 (omega arith)))
+    (sym (u16Bytes-kept (firstSum s)) ∙ ap u16Bytes (check-first s holds) ∙ u16Bytes-at s bytes 508 (omega arith))
+    (sym (u16Bytes-kept (secondSum s)) ∙ ap u16Bytes (check-second s holds) ∙ u16Bytes-at s bytes 510 (omega arith)))
     ∙ ap (part s 0) (sym whole)
     ∙ part-whole s

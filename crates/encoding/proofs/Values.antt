@@ -3,15 +3,13 @@
 -- In order: the number and the mark that a value is written as; a value read back from both; the bytes and the mark of a value
 -- that was read.
 -- Assumes nothing.
-use mathlib.Core.Path.{_≡_, refl, sym, ap, ap₂, _∙_}
+use mathlib.Core.Path.{_≡_, refl, sym, ap, _∙_}
 use mathlib.Core.Bool.{Bool, true, false}
-use mathlib.Core.List.{List}
-use Prim.Native.Nat.{ℕ, zero, suc, _+_, _*_, _/_, _%_, _^_, _≤_, _<_}
+use Prim.Native.Nat.{ℕ, zero, suc, _*_, _/_, _%_, _^_, _≤_, _<_}
 use native.Mathlib.Nat.{mod-lt}
 use native.Mathlib.Omega.{arith}
 use lib.Dec.{eqb}
-use borrow.Author.Tests.{eqb-true, eqb-false, eq-eqb}
-use Rattle.laws.proofs.Cases.{by-test}
+use borrow.Author.Tests.{eqb-true}
 use Rattle.values.specs.Values.{marked, valueOf, absentIsZero}
 use Rattle.values.specs.declared.Value.{Value}
 use Rattle.values.specs.declared.Value.the-variants.{Given, Missing}
@@ -69,7 +67,7 @@ module _ (v : Value) (marks bit : ℕ) (here : marks / 2 ^ bit % 2 ≡ mark v) w
 
 module _ (marks bit n : ℕ) where
   -- its mark is the bit that was read
-  pub mark-read : mark (valueOf (marked marks bit) n) ≡ marks / 2 ^ bit % 2
+  mark-read : mark (valueOf (marked marks bit) n) ≡ marks / 2 ^ bit % 2
   unfolding marked
   mark-read = own (marks / 2 ^ bit % 2) (mod-lt (marks / 2 ^ bit) (omega arith))
     where
@@ -77,6 +75,9 @@ module _ (marks bit n : ℕ) where
       own zero h = refl
       own (suc zero) h = refl
       own (suc (suc d)) h = absurd (omega arith)
+
+  pub markOf-read : markOf bit (valueOf (marked marks bit) n) ≡ marks / 2 ^ bit % 2 * 2 ^ bit
+  markOf-read = markOf-mark bit (valueOf (marked marks bit) n) ∙ ap (λ (d : ℕ). d * 2 ^ bit) mark-read
 
   -- its bytes are those of the number, where a missing one has zero bytes
   pub valueBytes-read : absentIsZero (marked marks bit) n ≡ true → valueBytes (valueOf (marked marks bit) n) ≡ u32Bytes n

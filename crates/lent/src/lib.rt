@@ -13,8 +13,9 @@ use writer::make_book;
 ghost use mathlib.Core.Path.{_≡_};
 ghost use Prim.Native.Nat.{_<_, min};
 ghost use lib.ListN.{length};
-ghost use Rattle.plain.specs.Given.{parametersIn};
-ghost use Rattle.lent.specs.inner.Finished.{PutIn, Finished};
+ghost use Rattle.plain.specs.Given.{parametersIn, offerIn};
+ghost use Rattle.writer.specs.inner.Rows.{putRow};
+ghost use Rattle.lent.specs.inner.Finished.{Finished};
 
 // How many of so many rows are put into their places: a book has 600.
 pub fn rows_kept(rows: usize) -> usize
@@ -26,7 +27,7 @@ pub fn rows_kept(rows: usize) -> usize
 // Puts a row into its place.
 pub fn put_row(book: &mut [u8], i: usize, row: OzpRow)
     requires { ⌜ (length (now book) ≡ 20992) × (i < 600) ⌝ }
-    ensures { λ _. ⌜ PutIn (now (book .entry)) i row (now (book .exit)) ⌝ }
+    ensures { λ _. ⌜ now (book .exit) ≡ putRow (now (book .entry)) i (offerIn row) ⌝ }
 {
     writer::put_row(book, i, offer_in(row));
 }

@@ -32,7 +32,7 @@ told-short text room l =
     record { answered = rw (lt-leb (length text) (length room) l); room-holds = rw (lt-leb (length text) (length room) l) }
 
 -- a text that has bytes is given as many
-given-some : (text : List ℕ) → (length text ≡ 0 → ⊥) → textGiven (length text) ≡ textOf text
+pub given-some : (text : List ℕ) → (length text ≡ 0 → ⊥) → textGiven (length text) ≡ textOf text
 given-some [] any = absurd (any refl)
 given-some (byte ∷ bytes) any = refl
 

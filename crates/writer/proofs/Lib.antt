@@ -3,3 +3,4 @@ pub mod Fields
 pub mod Raw
 pub mod Books
 pub mod Making
+pub mod Ranges

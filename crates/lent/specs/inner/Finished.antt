@@ -1,4 +1,4 @@
--- What is done with a book in which the rows stand in their places, or are put there.
+-- What is done with a book in which the rows stand in their places.
 -- Assumes nothing.
 use Prim.Native.Nat.{ℕ}
 use mathlib.Core.Path.{_≡_}
@@ -8,18 +8,9 @@ use lib.ListN.{length, take, drop}
 use Rattle.values.specs.Refusals.{unless, andThen, shortRoom, bufferBy}
 use Rattle.values.specs.declared.Verdict.{Verdict}
 use Rattle.values.specs.declared.head.Parameters.{Parameters}
-use Rattle.encoding.specs.inner.Fits.{OfferFits}
-use Rattle.writer.specs.inner.Rows.{putRow}
 use Rattle.writer.specs.inner.Made.{bytesFor, bookMade, beforeMade, madeFault}
-use Rattle.plain.specs.Given.{offerIn}
-use Rattle.plain.specs.declared.structs.OzpRow.{OzpRow}
 use Rattle.plain.specs.declared.structs.OzpText.{OzpText}
 use Rattle.words.specs.Texts.{textGiven, textBy}
-
--- a row that is put into its place; what a caller hands in fits the bytes of a book
-pub record PutIn (b : List ℕ) (i : ℕ) (row : OzpRow) (b′ : List ℕ) : Type 0 where
-  pub put : b′ ≡ putRow b i (offerIn row)
-  pub fits : OfferFits (offerIn row)
 
 -- what is found in the book, and then 20
 unfoldable pub finishFault : Parameters → ℕ → List ℕ → ℕ → Verdict
