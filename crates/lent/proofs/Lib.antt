@@ -1,2 +1,3 @@
 pub mod Finishing
 pub mod Writes
+pub mod Placed

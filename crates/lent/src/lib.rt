@@ -33,12 +33,7 @@ pub fn put_row(book: &mut [u8], i: usize, row: OzpRow)
 }
 
 // Makes the book of these parameters and so many rows, and copies it into the room, where nothing refuses it.
-pub fn put_book(
-    parameters: OzpParameters,
-    rows: usize,
-    book: &mut [u8],
-    room: &mut [u8],
-) -> OzpText
+pub fn put_book(parameters: OzpParameters, rows: usize, book: &mut [u8], room: &mut [u8]) -> OzpText
     requires { ⌜ length (now book) ≡ 20992 ⌝ }
     ensures { λ r. ⌜ Finished (parametersIn parameters) rows (now (book .entry)) (now (room .entry)) r (now (book .exit)) (now (room .exit)) ⌝ }
 {

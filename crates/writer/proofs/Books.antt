@@ -42,10 +42,10 @@ block-made f k offers q e few =
     let cut : rawBlock offers ++ q ≡ zeros 8 ++ rest = rw (zeros-add 8 20) (simp append-assoc) in
     let there : k * 512 ≡ k * 512 + 0 = omega arith in
     let opened : put (f ++ (rawBlock offers ++ q)) (k * 512) head ≡ f ++ (head ++ rest) =
-        ap (λ (b : List ℕ). put (f ++ b) (k * 512) head) cut
-        ∙ ap (λ (at : ℕ). put (f ++ (zeros 8 ++ rest)) at head) there
-        ∙ put-after f (zeros 8 ++ rest) (k * 512) 0 head e
-        ∙ ap (λ (s : List ℕ). f ++ s) (put-front (zeros 8) rest head (length-zeros 8)) in
+    ap (λ (b : List ℕ). put (f ++ b) (k * 512) head) cut
+    ∙ ap (λ (at : ℕ). put (f ++ (zeros 8 ++ rest)) at head) there
+    ∙ put-after f (zeros 8 ++ rest) (k * 512) 0 head e
+    ∙ ap (λ (s : List ℕ). f ++ s) (put-front (zeros 8) rest head (length-zeros 8)) in
     let whole : head ++ rest ≡ rowsBytes k offers ++ (zeros 4 ++ q) = simp append-assoc in
     ap (λ (b : List ℕ). sealedAt b (k * 512)) (opened ∙ ap (λ (s : List ℕ). f ++ s) whole)
     ∙ sealed-there f (rowsBytes k offers) (zeros 4) q (k * 512) e (length-rows k offers few) (length-zeros 4)
@@ -61,7 +61,7 @@ blocks-one (suc j) k offers =
     let number : suc k + j ≡ k + suc j = omega arith in
     let later : 15 + j * 15 ≡ suc j * 15 = omega arith in
     let here : offersHere (drop 15 offers) j ≡ offersHere offers (suc j) =
-        ap (take 15) (drop-drop (j * 15) 15 offers ∙ ap (λ (at : ℕ). drop at offers) later) in
+    ap (take 15) (drop-drop (j * 15) 15 offers ∙ ap (λ (at : ℕ). drop at offers) later) in
     ap (λ (s : List ℕ). sealed (rowsBytes k (take 15 offers)) ++ s)
     (blocks-one j (suc k) (drop 15 offers)
     ∙ ap₂ (λ (n : ℕ) (os : List Offer). rowBlocks j (suc k) (drop 15 offers) ++ sealed (rowsBytes n os)) number here)
@@ -89,7 +89,7 @@ module _ (h : List ℕ) (first : length h ≡ 512) (offers : List Offer) (few : 
       let os : List Offer = offersHere offers j in
       let front : List ℕ = h ++ rowBlocks j 1 offers in
       let long : length front ≡ (j + 1) * 512 =
-          length-append h (rowBlocks j 1 offers) ∙ ap₂ _+_ first (length-rowBlocks j 1 offers) ∙ omega arith in
+      length-append h (rowBlocks j 1 offers) ∙ ap₂ _+_ first (length-rowBlocks j 1 offers) ∙ omega arith in
       ap (λ (b : List ℕ). blockMade b (j + 1) (rowsHere (length offers) j)) (blocks-made j (omega arith))
       ∙ ap (λ (s : List ℕ). blockMade (h ++ (rowBlocks j 1 offers ++ s)) (j + 1) (rowsHere (length offers) j)) (left-one offers j (omega arith))
       ∙ ap₂ (λ (b : List ℕ) (n : ℕ). blockMade b (j + 1) n)
@@ -106,9 +106,19 @@ module _ (h : List ℕ) (first : length h ≡ 512) (offers : List Offer) (few : 
 -- the marks are one byte
 marks-most : (p : Parameters) → headMarks p ≤ 31
 marks-most p =
-    omega (arith, markOf-mark 0 (p .cost), markOf-mark 1 (p .offset), markOf-mark 2 (p .outage), markOf-mark 3 (p .requirement),
-      markOf-mark 4 (p .margin), mark-most (p .cost), mark-most (p .offset), mark-most (p .outage), mark-most (p .requirement),
-      mark-most (p .margin))
+    omega (
+      arith,
+      markOf-mark 0 (p .cost),
+      markOf-mark 1 (p .offset),
+      markOf-mark 2 (p .outage),
+      markOf-mark 3 (p .requirement),
+      markOf-mark 4 (p .margin),
+      mark-most (p .cost),
+      mark-most (p .offset),
+      mark-most (p .outage),
+      mark-most (p .requirement),
+      mark-most (p .margin),
+    )
 
 marks-bytes : (p : Parameters) → u16Bytes (headMarks p) ≡ headMarks p ∷ 0 ∷ []
 unfolding u16Bytes

@@ -131,7 +131,7 @@ put-place b at o marks h e most e₁ e₂ e₃ e₄ e₅ e₆ e₇ =
     (sym (seven (u32Bytes (o .resource)) (u32Bytes (o .seller)) (valueBytes (o .price)) (u32Bytes (o .quantity)) (valueBytes (o .block))
     (u64Bytes (o .stamp)) (u32Bytes marks))
     ∙ ap (λ (s : List ℕ). u32Bytes (o .resource) ++ (u32Bytes (o .seller) ++ (valueBytes (o .price) ++ (u32Bytes (o .quantity)
-      ++ (valueBytes (o .block) ++ (u64Bytes (o .stamp) ++ s)))))) last)
+    ++ (valueBytes (o .block) ++ (u64Bytes (o .stamp) ++ s)))))) last)
 
 -- ---- what opens a block
 
@@ -184,7 +184,7 @@ put-opening b p rows marks h e e₁ e₂ e₃ e₄ e₅ e₆ e₇ =
     (sym (opened rpmb (u16Bytes 1) (u16Bytes (p .year)) (valueBytes (p .cost)) (valueBytes (p .offset)) (valueBytes (p .outage))
     (valueBytes (p .requirement)) (u16Bytes rows) (u16Bytes marks) (valueBytes (p .margin)))
     ∙ ap (λ (m : ℕ). rpmb ++ (u16Bytes 1 ++ (u16Bytes (p .year) ++ (valueBytes (p .cost) ++ (valueBytes (p .offset)
-      ++ (valueBytes (p .outage) ++ (valueBytes (p .requirement) ++ (u16Bytes rows ++ (u16Bytes m ++ valueBytes (p .margin)))))))))) e)
+    ++ (valueBytes (p .outage) ++ (valueBytes (p .requirement) ++ (u16Bytes rows ++ (u16Bytes m ++ valueBytes (p .margin)))))))))) e)
 
 pub put-block : (b : List ℕ) (k here : ℕ) {c₁ c₂ c₃ c₄ : List ℕ} → k * 512 + 512 ≤ length b
     → c₁ ≡ put b (k * 512) ofrs
@@ -222,9 +222,9 @@ unfolding sealedAt
 put-sums b at s {c} {d} {sum} {total} h e f g first next =
     let there : at + 510 ≡ at + 508 + 2 = omega arith in
     let low : u16Bytes sum ≡ u16Bytes (firstSum (take 512 (drop at b))) =
-        ap u16Bytes f ∙ u16Bytes-kept (blockSum s) ∙ ap u16Bytes (blockSum-first s ∙ ap firstSum e) in
+    ap u16Bytes f ∙ u16Bytes-kept (blockSum s) ∙ ap u16Bytes (blockSum-first s ∙ ap firstSum e) in
     let high : u16Bytes total ≡ u16Bytes (secondSum (take 512 (drop at b))) =
-        ap u16Bytes g ∙ u16Bytes-kept (blockTotal s) ∙ ap u16Bytes (blockTotal-second s ∙ ap secondSum e) in
+    ap u16Bytes g ∙ u16Bytes-kept (blockTotal s) ∙ ap u16Bytes (blockTotal-second s ∙ ap secondSum e) in
     put-next b (at + 508) (u16Bytes sum) (u16Bytes total) 2 (length-u16 sum) (omega arith) first
     (next ∙ ap (λ (k : ℕ). put c k (u16Bytes total)) there)
     ∙ ap₂ (λ (x y : List ℕ). put b (at + 508) (x ++ y)) low high

@@ -97,11 +97,11 @@ pub sealed-there : (f s z q : List ℕ) (at : ℕ) → length f ≡ at → lengt
 unfolding sealedAt sealed u16Bytes
 sealed-there f s z q at e whole four =
     let block : take 512 (drop at (f ++ (s ++ (z ++ q)))) ≡ s ++ z =
-        ap (take 512) (drop-at f (s ++ (z ++ q)) at e)
-        ∙ ap (take 512) (sym (append-assoc s z q))
-        ∙ take-at (s ++ z) q 512 (length-append s z ∙ ap₂ _+_ whole four) in
+    ap (take 512) (drop-at f (s ++ (z ++ q)) at e)
+    ∙ ap (take 512) (sym (append-assoc s z q))
+    ∙ take-at (s ++ z) q 512 (length-append s z ∙ ap₂ _+_ whole four) in
     let sums : seal (take 512 (drop at (f ++ (s ++ (z ++ q))))) ≡ seal s =
-        ap seal block ∙ seal-same (s ++ z) s (λ i l. List·getD-append s z 0 i (omega arith)) in
+    ap seal block ∙ seal-same (s ++ z) s (λ i l. List·getD-append s z 0 i (omega arith)) in
     ap (put (f ++ (s ++ (z ++ q))) (at + 508)) sums
     ∙ put-after f (s ++ (z ++ q)) at 508 (seal s) e
     ∙ ap (λ (x : List ℕ). f ++ x)

@@ -108,7 +108,7 @@ raw-one (suc blocks) offers o l =
     let later : List Offer = drop 15 offers in
     let count : length later ≡ length offers - 15 = length-drop 15 offers in
     let further : length offers / 15 * 512 + (28 + length offers % 15 * 32) ≡ 512 + (length later / 15 * 512 + (28 + length later % 15 * 32)) =
-        rw count (omega arith) in
+    rw count (omega arith) in
     ap (λ (at : ℕ). put (rawBlock (take 15 offers) ++ raw blocks later) at (placeBytes o)) further
     ∙ put-after (rawBlock (take 15 offers)) (raw blocks later) 512 _ (placeBytes o) (length-rawBlock (take 15 offers) (fifteen offers))
     ∙ ap (λ (s : List ℕ). rawBlock (take 15 offers) ++ s) (raw-one blocks later o (omega arith))
@@ -117,10 +117,10 @@ raw-one (suc blocks) offers o l =
     let here : length offers / 15 * 512 + (28 + length offers % 15 * 32) ≡ 28 + length offers * 32 = omega arith in
     let more : length (offers ++ o ∷ []) ≤ 15 = omega (arith, length-append offers (o ∷ [])) in
     let left : put (raw (suc blocks) offers) (length offers / 15 * 512 + (28 + length offers % 15 * 32)) (placeBytes o)
-            ≡ rawBlock (offers ++ o ∷ []) ++ raw blocks [] =
-        rw (here, take-all 15 offers (omega arith), drop-of-length-le offers {i = 15} (omega arith)) (block-one offers o (raw blocks []) few) in
+    ≡ rawBlock (offers ++ o ∷ []) ++ raw blocks [] =
+    rw (here, take-all 15 offers (omega arith), drop-of-length-le offers {i = 15} (omega arith)) (block-one offers o (raw blocks []) few) in
     let right : raw (suc blocks) (offers ++ o ∷ []) ≡ rawBlock (offers ++ o ∷ []) ++ raw blocks [] =
-        rw (take-all 15 (offers ++ o ∷ []) more, drop-of-length-le (offers ++ o ∷ []) {i = 15} more) refl in
+    rw (take-all 15 (offers ++ o ∷ []) more, drop-of-length-le (offers ++ o ∷ []) {i = 15} more) refl in
     left ∙ sym right)
 
 -- ---- all rows

@@ -4,8 +4,8 @@ mod blocks;
 mod bytes;
 mod place;
 
-use blocks::put_book;
 use block::SIZE;
+use blocks::put_book;
 use book::rows::rows_fault;
 use layout::section::blocks_for;
 use limits::parameters::parameter_fault;

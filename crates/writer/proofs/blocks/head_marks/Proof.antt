@@ -45,11 +45,10 @@ add-result-4 c = search needs
 
 -- src/blocks.rt:32:1
 returns : tie.Need-returns
-returns c =
-    (
-      head-marks (c .before .before .before .before .before .args .p) (c .before .before .before .before .mark-of .ensures .0) (c .before .before .before .mark-of2 .ensures .0) (c .before .before .mark-of3 .ensures .0) (c .before .mark-of4 .ensures .0) (c .mark-of5 .ensures .0),
-      search needs,
-    )
+returns c = (
+  head-marks (c .before .before .before .before .before .args .p) (c .before .before .before .before .mark-of .ensures .0) (c .before .before .before .mark-of2 .ensures .0) (c .before .before .mark-of3 .ensures .0) (c .before .mark-of4 .ensures .0) (c .mark-of5 .ensures .0),
+  search needs,
+)
 
 pub head-marks-spec : {M : Type 1} → statement M
 head-marks-spec =
