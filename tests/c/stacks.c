@@ -51,7 +51,7 @@ void stacks(const char *folder)
 {
     /* by name, with the KiB that the header says are more than enough */
     static const struct { const char *name; void *(*call)(void *); size_t enough; } calls[] = {
-        {"clear", call_clear, 40}, {"quote", call_quote, 40}, {"read", call_read, 40}, {"write", call_write, 40},
+        {"clear", call_clear, 40}, {"quote", call_quote, 40}, {"read", call_read, 40}, {"write", call_write, 48},
         {"curve", call_curve, 40}, {"price_at", call_price_at, 40}, {"report", call_report, 72}, {"words", call_words, 40},
         {"compare", call_compare, 56},
     };
