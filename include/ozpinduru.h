@@ -1,4 +1,4 @@
-/* ozpinduru: clears a capacity auction of one region from a book of bytes. For x86-64 Linux.
+/* ozpinduru: clears a capacity auction of one region from a book of bytes, and writes such books. For x86-64 Linux.
  *
  * Units. Quantities are tenths of a megawatt, prices whole cents per MW-day, amounts mills (tenths of a cent), costs whole
  * dollars per MW-year, the outage rate and the reserve margin hundredths of a percent. No amount is rounded. ozp_price_at alone
@@ -6,9 +6,9 @@
  *
  * Every function answers every input, and its answer is proved to be the one described here. None keeps state, allocates or
  * looks at anything but its arguments, so any number of threads may call at once, also on one book. Of the C library they use
- * memcpy and memset. The buffers of one call must not overlap each other or the book, and nobody else may write the book or
- * use the buffers while the call runs. A call uses less than 40 KiB of stack, ozp_compare less than 56 and ozp_report less than
- * 72: that is measured, and no theorem bounds it.
+ * memcpy and memset. What one call writes must not overlap anything else that it is lent, and nobody else may write what it reads
+ * or use what it writes while the call runs. A call uses less than 40 KiB of stack, ozp_write less than 48, ozp_compare less than
+ * 56 and ozp_report less than 72: that is measured, and no theorem bounds it.
  *
  * A slice is a pointer and a number of entries, all of which may be read (and, of a buffer, written). Where the number is 0
  * the pointer is not followed and may be null; else it must be valid and aligned to its entries.
@@ -29,7 +29,7 @@ extern "C" {
 #endif
 
 #define OZP_VERSION_MAJOR 0
-#define OZP_VERSION_MINOR 5
+#define OZP_VERSION_MINOR 6
 #define OZP_VERSION_PATCH 0
 #define OZP_VERSION (OZP_VERSION_MAJOR * 1000000 + OZP_VERSION_MINOR * 1000 + OZP_VERSION_PATCH)
 
@@ -62,6 +62,7 @@ enum {
     OZP_OFFER_OUT_OF_RANGE = 7,     /* an offer value is out of range; the row */
     OZP_REPEATED_RESOURCE = 8,      /* a resource number stands in an earlier row; the row */
     OZP_SHORT_BUFFER = 9,           /* a result buffer has fewer entries than offers; 1 cleared, 2 committed */
+    OZP_TOO_MANY_ROWS = 19,         /* more than 600 rows; 0 */
     OZP_SHORT_ROOM = 20             /* the room lent is too small; 0 */
 };
 
@@ -116,8 +117,9 @@ typedef struct { uint32_t kind, rows, number, place; ozp_parameters parameters; 
  */
 typedef struct { uint32_t kind, price, shared, field, row, other, book, number, place; } ozp_comparison;
 
-/* A text in lent room: OZP_GIVEN with the count of bytes written, OZP_NONE with 0 where there is no such text, or OZP_REFUSED
- * by OZP_SHORT_ROOM at 0. Only the bytes of the text are changed, none of a room that is too small; no zero ends the text. */
+/* A text or a book in lent room: OZP_GIVEN with the count of bytes written, OZP_NONE with 0 where there is no such text, or
+ * OZP_REFUSED with number and place, by OZP_SHORT_ROOM at 0 where the room is too small. Only the bytes that are counted are
+ * changed, none on a refusal; no zero ends a text. */
 typedef struct { uint64_t bytes; uint32_t kind, number, place; } ozp_text;
 
 /* Clears a book.
@@ -136,6 +138,16 @@ ozp_answer ozp_quote(const uint8_t *book, size_t book_bytes);
  * entries past the last row are not touched. Refused by 1, 2, 3, then by 9 at 1 where the book has more rows than there are
  * entries; a refusal leaves the entries as they were. */
 ozp_contents ozp_read(const uint8_t *book, size_t book_bytes, ozp_row *rows, size_t row_entries);
+
+/* Writes the book that says these parameters and rows, in their order, into the room. What is missing is written as missing, and
+ * a value out of range is not written. Reading what was written gives back the same parameters and rows; writing what was read
+ * gives back the bytes of a sound book.
+ *
+ * On OZP_GIVEN the book stands at the start of the room, and what stands behind it is not touched; OZP_BOOK_BYTES are room for
+ * every book. Refused by 19 at 0 for more than OZP_ROWS rows; by 5 at the lowest field that is given out of range, as by
+ * ozp_curve, where E may reach 1,000,000 if C is missing; rows from 0, each by 7 and 8; by 20 at 0 where the room is too small. A
+ * refusal leaves the room as it was. */
+ozp_text ozp_write(ozp_parameters parameters, const ozp_row *rows, size_t row_entries, uint8_t *room, size_t room_bytes);
 
 /* Whether losers matter between two books.
  *

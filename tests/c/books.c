@@ -13,9 +13,11 @@ static void judge(const char *folder, const char *line)
     char said[64];
     unsigned number, place, rows;
     const char *verdict = strstr(line, ": ");
+    const char *sound = strchr(line, ',');
     const char *handed = strstr(line, ", rows ");
     size_t bytes;
-    if (verdict == NULL || handed == NULL || (size_t)(verdict - line) >= sizeof name || sscanf(handed, ", rows %u", &rows) != 1) {
+    if (verdict == NULL || sound == NULL || handed == NULL || (size_t)(verdict - line) >= sizeof name
+        || sscanf(handed, ", rows %u", &rows) != 1) {
         expect(0, line, "a line of the expected output");
         return;
     }
@@ -27,13 +29,16 @@ static void judge(const char *folder, const char *line)
         expect_report(book, bytes, said, name);
         if (number <= OZP_WRONG_LAYOUT)
             expect_unread(book, bytes, number, place, name);
-        else
+        else {
             expect_rows(book, bytes, rows, name);
+            expect_written_back(book, bytes, sound, name);
+        }
         expect_refusal(clear(book, bytes, &out, ENTRIES, ENTRIES), &out, number, place, name);
         expect_refusal(clear(book, bytes, &out, 0, 0), &out, number, place, name);
         return;
     }
     expect_rows(book, bytes, rows, name);
+    expect_written_back(book, bytes, sound, name);
     expect_clearing(clear(book, bytes, &out, ENTRIES, ENTRIES), &out, year_of(book), rows, name);
     expect_clearing(clear(book, bytes, &out, rows, rows), &out, year_of(book), rows, name);
     if (rows > 0) {

@@ -37,6 +37,8 @@ unsigned judge_all(const char *folder, const char *lines);
 void expect_rows(const uint8_t *book, size_t bytes, size_t rows, const char *name);
 void expect_unread(const uint8_t *book, size_t bytes, unsigned number, unsigned place, const char *name);
 void reading(const char *folder);
+void expect_written_back(const uint8_t *book, size_t bytes, const char *verdict, const char *name);
+void writing(const char *folder);
 void reference(const char *folder);
 void nothing(const char *folder);
 void curve(void);

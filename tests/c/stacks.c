@@ -16,6 +16,7 @@ static size_t bytes;
 static struct buffers out;
 static ozp_row rows[ENTRIES];
 static ozp_parameters parameters;
+static size_t count;
 static uint8_t room[OZP_REPORT_BYTES];
 
 static void *call_nothing(void *lent) { return lent; }
@@ -23,6 +24,7 @@ static void *call_clear(void *lent) { clear(book, bytes, &out, ENTRIES, ENTRIES)
 static void *call_quote(void *lent) { ozp_quote(book, bytes); return lent; }
 static void *call_compare(void *lent) { ozp_compare(book, bytes, book, bytes); return lent; }
 static void *call_read(void *lent) { ozp_read(book, bytes, rows, ENTRIES); return lent; }
+static void *call_write(void *lent) { ozp_write(parameters, rows, count, room, sizeof room); return lent; }
 static void *call_report(void *lent) { ozp_report(book, bytes, room, sizeof room); return lent; }
 static void *call_words(void *lent) { ozp_words(OZP_WRONG_LAYOUT, room, sizeof room); return lent; }
 static void *call_curve(void *lent) { ozp_curve(parameters); return lent; }
@@ -49,8 +51,9 @@ void stacks(const char *folder)
 {
     /* by name, with the KiB that the header says are more than enough */
     static const struct { const char *name; void *(*call)(void *); size_t enough; } calls[] = {
-        {"clear", call_clear, 40}, {"quote", call_quote, 40}, {"read", call_read, 40}, {"curve", call_curve, 40},
-        {"price_at", call_price_at, 40}, {"report", call_report, 72}, {"words", call_words, 40}, {"compare", call_compare, 56},
+        {"clear", call_clear, 40}, {"quote", call_quote, 40}, {"read", call_read, 40}, {"write", call_write, 48},
+        {"curve", call_curve, 40}, {"price_at", call_price_at, 40}, {"report", call_report, 72}, {"words", call_words, 40},
+        {"compare", call_compare, 56},
     };
     static const char *const books[] = {"reference.book", "offers-600-length-20992.book"};
     void *stack = NULL;
@@ -60,9 +63,12 @@ void stacks(const char *folder)
     printf("KiB of stack:");
     for (i = 0; i < LENGTH(calls); i++) {
         for (most = idle, k = 0; k < LENGTH(books); k++) {
+            ozp_contents contents;
             size_t now;
             bytes = read_book(folder, books[k], book);
-            parameters = ozp_read(book, bytes, rows, ENTRIES).parameters;
+            contents = ozp_read(book, bytes, rows, ENTRIES);
+            parameters = contents.parameters;
+            count = contents.rows;
             now = used(calls[i].call, (uint8_t *)stack);
             most = now > most ? now : most;
         }

@@ -20,6 +20,7 @@ int main(int count, char **words)
     reference(words[1]);
     nothing(words[1]);
     reading(words[1]);
+    writing(words[1]);
     curve();
     make_whole();
     days(words[1]);

@@ -4,10 +4,10 @@ import pathlib
 import sys
 
 sys.path.insert(0, str(pathlib.Path(__file__).resolve().parents[2] / "bindings" / "python"))
-from ozpinduru._book import _ROW  # noqa: E402
+from ozpinduru._book import ROW  # noqa: E402
 from ozpinduru import _library as c  # noqa: E402
 
-assert _ROW.size == ctypes.sizeof(c.Row)
+assert ROW.size == ctypes.sizeof(c.Row)
 print("constants", c.GIVEN, c.NONE, c.REFUSED, c.MISSING, c.DIFFERS, c.BOOK_BYTES, c.ROWS, c.REPORT_BYTES, c.WORDS_BYTES,
       c.NO_VALUE, 2**64 - 1)
 for struct in c.STRUCTS:

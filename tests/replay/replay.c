@@ -84,6 +84,8 @@ static const char *difference(const struct call *call, ozp_answer a, const uint3
         return "what is read";
     if (!is_compared(call))
         return "the comparison with itself";
+    if (!is_written_back(call))
+        return "what is written back";
     return is_reported(call) ? NULL : "the report";
 }
 

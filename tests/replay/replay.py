@@ -75,11 +75,25 @@ def read(due, book):
     return found.offers if found == decoded(book, due.rows) else None
 
 
+def written_back(due, book):
+    """Whether what the package reads it writes back: the book's bytes, unless it is one that no writer makes."""
+    try:
+        found = ozpinduru.read(book)
+    except ozpinduru.Refusal:
+        return True
+    try:
+        return ozpinduru.write(found.parameters, found.offers) == book
+    except ozpinduru.Refusal as refusal:
+        return refusal.number in (5, 7, 8) and due.kind == 3 and due.number != ozpinduru.Fault.SHORT_BUFFER
+
+
 def called(due, book, filled):
     """What differs where the package's own functions are called; their buffers are never short."""
     offers, price = read(due, book), due.price if due.kind == 1 else None
     if offers is None:
         return "what is read"
+    if not written_back(due, book):
+        return "what is written back"
     if due.number == ozpinduru.Fault.SHORT_BUFFER:
         return None
     rows = [(offer.resource, x, y, (price or 0) * (y - x)) for offer, x, y in zip(offers, *filled)]

@@ -4,6 +4,7 @@
 #include "replay.h"
 
 #include <stdlib.h>
+#include <string.h>
 
 /* whether a book is read into so many entries */
 int is_read(const struct call *call, size_t entries)
@@ -12,6 +13,39 @@ int is_read(const struct call *call, size_t entries)
     ozp_contents contents = ozp_read(call->book, call->due.book_bytes, rows, entries);
     free(rows);
     return contents.kind == OZP_GIVEN && contents.rows == call->due.rows;
+}
+
+/* whether contents are written into room of so many bytes; room that is not written is left as it was */
+static int is_written(const struct call *call, const ozp_contents *c, const ozp_row *rows, size_t bytes, ozp_text *t)
+{
+    uint8_t *book = (uint8_t *)room(bytes), *before = (uint8_t *)room(bytes);
+    int as_due;
+    memset(book, 0x5E, bytes);
+    memset(before, 0x5E, bytes);
+    *t = ozp_write(c->parameters, rows, c->rows, book, bytes);
+    as_due = memcmp(book, t->kind == OZP_GIVEN ? call->book : before, bytes) == 0;
+    free(book);
+    free(before);
+    return as_due && (t->kind == OZP_REFUSED || t->bytes == bytes);
+}
+
+/* whether what is read of a book is written back, in room of just its length: a book that clears always, and none in less */
+int is_written_back(const struct call *call)
+{
+    const struct head *due = &call->due;
+    int clears = due->kind != OZP_REFUSED || due->number == OZP_SHORT_BUFFER, as_due;
+    ozp_row *rows = (ozp_row *)room(due->rows * sizeof *rows);
+    ozp_contents c = ozp_read(call->book, due->book_bytes, rows, due->rows);
+    ozp_text whole, cut;
+    if (c.kind == OZP_REFUSED) {
+        free(rows);
+        return due->rows == 0 && !clears;
+    }
+    as_due = is_written(call, &c, rows, due->book_bytes, &whole) && is_written(call, &c, rows, due->book_bytes - 1, &cut);
+    free(rows);
+    if (whole.kind == OZP_GIVEN)
+        return as_due && cut.number == OZP_SHORT_ROOM;
+    return as_due && !clears && whole.number >= OZP_PARAMETER_OUT_OF_RANGE && cut.number == whole.number;
 }
 
 /* whether a book's report fits room of just its length, and none that is shorter */

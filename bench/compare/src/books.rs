@@ -72,7 +72,7 @@ fn by_margin(offers: &[Offer]) -> Vec<u8> {
 
 /// Six hundred offers in no order of price, stamp or resource, each with a block. With the reference parameters their sum is
 /// 11,700, so that most clear whole, one in part and some not at all.
-fn distinct() -> Vec<Offer> {
+pub fn distinct() -> Vec<Offer> {
     (0..600u32)
         .map(|at| {
             let price = 60 * (at * 7_919 % 601);
@@ -107,7 +107,7 @@ fn rising() -> Vec<Offer> {
     (DAY..).zip(equal()).map(|(stamp, offer)| Offer { stamp, ..offer }).collect()
 }
 
-fn last_repeats() -> Vec<Offer> {
+pub fn last_repeats() -> Vec<Offer> {
     let mut offers = distinct();
     offers[599].resource = offers[300].resource;
     offers

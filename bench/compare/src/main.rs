@@ -5,6 +5,7 @@
 mod books;
 mod prices;
 mod timing;
+mod writing;
 
 use books::{cases, pairs, Case, Pair};
 use ozpinduru::{clear_into, raw, Tenths};
@@ -22,6 +23,7 @@ fn main() {
     );
     cases.iter().for_each(compare);
     pairs().iter().for_each(compare_pair);
+    writing::compare();
     println!();
     prices::compare();
     println!();
@@ -44,12 +46,12 @@ fn compare(case: &Case) {
     agree(case);
     let (mut a, mut b) = ([NONE; ROOM], [NONE; ROOM]);
     let [(c, d), (e, f)] = &mut [([0; ROOM], [0; ROOM]); 2];
-    let [library, plain, tuned] = best([
+    let times = best([
         &mut || done(clear_into(black_box(book), &mut a, &mut b)),
         &mut || done(plain::clear(black_box(book), c, d)),
         &mut || done(plain::clear_tuned(black_box(book), e, f)),
     ]);
-    line(case.name, [library, plain, tuned], case.target);
+    line(case.name, times, case.target);
 }
 
 fn line(name: &str, [library, plain, tuned]: [f64; 3], target: f64) {

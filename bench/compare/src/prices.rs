@@ -20,8 +20,14 @@ const PARAMETERS: Parameters = Parameters {
     margin: None,
 };
 
-const PLAIN: Given =
-    Given { year: 2026, cost: Some(146_000), offset: Some(73_000), outage: Some(2_000), requirement: Some(10_000), margin: None };
+const PLAIN: Given = Given {
+    year: 2026,
+    cost: Some(146_000),
+    offset: Some(73_000),
+    outage: Some(2_000),
+    requirement: Some(10_000),
+    margin: None,
+};
 
 const fn given(number: u32) -> Value {
     Value { kind: raw::GIVEN, number }

@@ -2,14 +2,18 @@
 
 pub const BLOCK: usize = 512;
 
-/// Both sums modulo 65,536, in 16-bit arithmetic.
 pub fn check_holds(block: &[u8; BLOCK]) -> bool {
+    sums(block) == (u16_at(block, 508), u16_at(block, 510))
+}
+
+/// Both sums modulo 65,536, in 16-bit arithmetic.
+pub fn sums(block: &[u8; BLOCK]) -> (u16, u16) {
     let (mut plain, mut placed) = (0u16, 0u16);
     for (at, &byte) in block[..508].iter().enumerate() {
         plain = plain.wrapping_add(byte.into());
         placed = placed.wrapping_add(u16::from(byte).wrapping_mul(at as u16 + 1));
     }
-    plain == u16_at(block, 508) && placed == u16_at(block, 510)
+    (plain, placed)
 }
 
 pub fn head_laid_out(head: &[u8; BLOCK]) -> bool {

@@ -6,9 +6,9 @@ use crate::parameters::Parameters;
 use crate::Fault;
 use std::collections::HashSet;
 
-const PLACE: usize = 32;
-const PLACES: usize = 15;
-const MOST_OFFERS: usize = 600;
+pub const PLACE: usize = 32;
+pub const PLACES: usize = 15;
+pub const MOST_OFFERS: usize = 600;
 
 /// The values of a place. A flexible offer's block is 0, which changes nothing in what is committed.
 #[derive(Clone, Copy, PartialEq, Eq)]
@@ -19,7 +19,7 @@ pub struct Offer {
     pub quantity: u32,
     pub block: u32,
     pub stamp: u64,
-    marks: u8,
+    pub marks: u8,
 }
 
 pub struct Book {

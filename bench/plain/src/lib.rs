@@ -4,6 +4,8 @@
 //! Then a sort by price, a walk over the sums that finds the total and the price at once, and a division of the one level that
 //! clears in part. Nothing is written into the buffers before the whole book is known to be good.
 //!
+//! `read` and `write` go between a book and what it says: the rows are tested in one pass, and each block is filled and sealed.
+//!
 //! `clear` finds repeats with the standard HashSet and orders ties with a sort; `clear_tuned` has a quicker hash and a selection.
 //! `price_at` is the curve's price at a quantity, between cents.
 
@@ -11,6 +13,7 @@ mod auction;
 mod block;
 mod book;
 mod comparison;
+mod contents;
 mod curve;
 mod manner;
 mod parameters;
@@ -19,13 +22,14 @@ pub use curve::ExactPrice;
 
 use auction::Auction;
 use book::{Book, Offer};
+pub use contents::{Contents, Row};
 use manner::{Manner, Tuned, Usual};
 use parameters::Parameters;
 
 pub use comparison::Comparison;
 
 /// A refusal's number and place.
-type Fault = (u32, u32);
+pub type Fault = (u32, u32);
 
 #[derive(Clone, Copy, Debug, PartialEq, Eq)]
 pub enum Outcome {
@@ -77,6 +81,21 @@ pub fn compare(first: &[u8], second: &[u8]) -> Comparison {
 /// The same, with a quicker hash.
 pub fn compare_tuned(first: &[u8], second: &[u8]) -> Comparison {
     comparison::compare::<Tuned>(first, second)
+}
+
+/// What a book says, or refusals 1, 2 and 3.
+pub fn read(bytes: &[u8]) -> Result<Contents, Fault> {
+    Contents::read(bytes)
+}
+
+/// Writes the book that says these contents into the room, and returns the count of its bytes. A refusal leaves the room.
+pub fn write(contents: &Contents, room: &mut [u8]) -> Result<usize, Fault> {
+    contents.write::<Usual>(room)
+}
+
+/// The same with a quicker hash.
+pub fn write_tuned(contents: &Contents, room: &mut [u8]) -> Result<usize, Fault> {
+    contents.write::<Tuned>(room)
 }
 
 fn outcome(result: Result<Clearing, Fault>) -> Outcome {

@@ -43,14 +43,14 @@ class Book:
 
 
 # stamp, resource, seller, quantity, kind and number of the price, kind and number of the block
-_ROW = struct.Struct("<Q3I2I2I4x")
-_ROW_WORDS, _RESOURCE = _ROW.size // 4, _library.Row.resource.offset // 4
+ROW = struct.Struct("<Q3I2I2I4x")
+_ROW_WORDS, _RESOURCE = ROW.size // 4, _library.Row.resource.offset // 4
 
 
 def rows_read(data: bytes) -> tuple[Any, array[int]]:
     """What the library reads of a book, with as many rows as its blocks could have; raises Refusal."""
     most = most_rows(data)
-    rows = array("I", bytes(_ROW.size * most))
+    rows = array("I", bytes(ROW.size * most))
     contents = library.ozp_read(data, len(data), rows.buffer_info()[0], most)
     if contents.kind == REFUSED:
         raise Refusal(contents.number, contents.place)
@@ -89,4 +89,4 @@ def read(book: bytes) -> Book:
     contents, rows = rows_read(held(book))
     p = contents.parameters
     parameters = Parameters(p.year, *map(_given, (p.cost, p.offset, p.outage, p.requirement, p.margin)))
-    return Book(parameters, [_offer(*row) for row in _ROW.iter_unpack(rows)])
+    return Book(parameters, [_offer(*row) for row in ROW.iter_unpack(rows)])

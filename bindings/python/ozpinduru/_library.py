@@ -6,7 +6,7 @@ import os
 import pathlib
 from typing import Any
 
-VERSION = (0, 5, 0)
+VERSION = (0, 6, 0)
 
 # kinds
 GIVEN, NONE, REFUSED, MISSING, DIFFERS = 1, 2, 3, 4, 5
@@ -42,6 +42,7 @@ def _declared(c: ctypes.CDLL) -> ctypes.CDLL:
         ("clear", Answer, book + buffer + buffer),
         ("quote", Answer, book),
         ("read", Contents, book + buffer),
+        ("write", Text, [Parameters] + buffer + buffer),
         ("compare", Comparison, book + book),
         ("curve", CurvePoints, [Parameters]),
         ("price_at", CurvePrice, [Parameters, _word]),

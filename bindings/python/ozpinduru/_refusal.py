@@ -23,11 +23,12 @@ class Fault(enum.IntEnum):
     OFFER_OUT_OF_RANGE = 7
     REPEATED_RESOURCE = 8
     SHORT_BUFFER = 9
+    TOO_MANY_ROWS = 19
     SHORT_ROOM = 20
 
 
 class Refusal(Exception):
-    """A book or parameters are refused: `number` says why, `place` at which block, row or field (year, C, E, F, R, margin
+    """A book, parameters or rows are refused: `number` says why, `place` at which block, row or field (year, C, E, F, R, margin
     from 1)."""
     def __init__(self, number: int, place: int) -> None:
         super().__init__(number, place)

@@ -24,3 +24,16 @@ def pairs():
     for path in sorted((ROOT / "tests" / "comparisons").glob("*.txt")):
         first, second = (path.with_suffix(f".{which}.book").read_bytes() for which in ("first", "second"))
         yield path.stem, first, second, path.read_text().strip()
+
+
+def soundness():
+    """What the program `verdicts` says of each book by its name: sound, or by what it is not."""
+    lines = (line.split(": ") for line in (VERDICTS / "stdout").read_text().splitlines())
+    return {name: said.split(", ")[1] for name, said in lines}
+
+
+def shipped():
+    """Every book that ships with the project."""
+    tests = [ROOT / "tests" / name for name in ("clearings", "comparisons", "explain")]
+    folders = (VERDICTS / "data", ROOT / "examples", *tests)
+    return [path for folder in folders for path in sorted(folder.glob("*.book"))]

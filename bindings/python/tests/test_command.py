@@ -113,7 +113,7 @@ class Says(unittest.TestCase):
         self.assertEqual(done.stdout.splitlines()[0], "cleared 1000.0 MW at $375.00 per MW-day")
 
     def test_help(self):
-        for words in ([], ["clear"], ["rows"], ["curve"], ["compare"]):
+        for words in ([], ["clear"], ["rows"], ["curve"], ["compare"], ["read"], ["write"]):
             status, said, wrong = ozp(*words, "--help")
             self.assertEqual((status, said.startswith("usage: ozp"), wrong), (0, True, ""))
 
@@ -157,7 +157,8 @@ class Fails(unittest.TestCase):
         self.one_line(2, ozp("clear", "-", preexec_fn=lambda: os.close(0)), "standard input is shut")
 
     def test_unwritable(self):
-        for words in (["clear", REFERENCE], ["rows", "--json", REFERENCE], ["compare", REFERENCE, REFERENCE], GIVEN, ["--help"],
+        for words in (["clear", REFERENCE], ["rows", "--json", REFERENCE], ["compare", REFERENCE, REFERENCE],
+                      ["read", REFERENCE], GIVEN, ["--help"],
                       ["clear", "--help"], ["--version"]):
             with self.subTest(words), open("/dev/full", "w") as full:
                 self.one_line(2, ozp(*words, stdout=full), "No space left on device")

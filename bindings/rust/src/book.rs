@@ -73,6 +73,7 @@ fn given(value: raw::Value) -> Option<u32> {
     (value.kind == raw::GIVEN).then_some(value.number)
 }
 
+#[inline]
 fn lent(value: Option<u32>) -> raw::Value {
     value.map_or(raw::Value { kind: raw::MISSING, number: raw::NO_VALUE }, |number| raw::Value { kind: raw::GIVEN, number })
 }
@@ -99,6 +100,20 @@ impl From<Parameters> for raw::Parameters {
             outage: lent(p.outage),
             requirement: lent(p.requirement.map(|tenths| tenths.0)),
             margin: lent(p.margin),
+        }
+    }
+}
+
+impl From<&Offer> for raw::Row {
+    #[inline]
+    fn from(offer: &Offer) -> raw::Row {
+        raw::Row {
+            stamp: offer.stamp,
+            resource: offer.resource,
+            seller: offer.seller,
+            quantity: offer.quantity.0,
+            price: lent(offer.price.map(|cents| cents.0)),
+            block: lent(offer.block.map(|tenths| tenths.0)),
         }
     }
 }

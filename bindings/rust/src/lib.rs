@@ -1,5 +1,5 @@
 //! Clears a capacity auction: an offer book goes in as bytes; cleared megawatts, the price and the make-whole payments come
-//! out. Every answer is the proved library's own; this crate gives its numbers Rust's types. What is not there is
+//! out; and such books are written. Every answer is the proved library's own; this crate gives its numbers Rust's types. What is not there is
 //! `None`, never 0: a clearing with no price cleared nothing, and an offer whose price is missing is unpriced.
 //!
 //! ```
@@ -29,6 +29,7 @@ pub mod raw;
 mod refusal;
 mod text;
 mod units;
+mod writing;
 
 pub use book::{read, Book, Offer, Parameters, MOST_ROWS};
 pub use calendar::days;
@@ -39,3 +40,4 @@ pub use exact::ExactPrice;
 pub use refusal::{Buffer, Field, Refusal};
 pub use text::{report, version, words};
 pub use units::{CentsPerMwDay, DollarsPerMwYear, Mills, Tenths};
+pub use writing::{write, write_into, MOST_BYTES};

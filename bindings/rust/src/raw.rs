@@ -67,7 +67,7 @@ structs! {
     Comparison {
         kind: u32, price: u32, shared: u32, field: u32, row: u32, other: u32, book: u32, number: u32, place: u32,
     }
-    /// A text in lent room.
+    /// A text or a book in lent room.
     Text { bytes: u64, kind: u32, number: u32, place: u32 }
 }
 
@@ -88,6 +88,7 @@ extern "C" {
     ) -> Answer;
     pub fn ozp_quote(book: *const u8, book_bytes: usize) -> Answer;
     pub fn ozp_read(book: *const u8, book_bytes: usize, rows: *mut Row, row_entries: usize) -> Contents;
+    pub fn ozp_write(parameters: Parameters, rows: *const Row, row_entries: usize, room: *mut u8, room_bytes: usize) -> Text;
     pub fn ozp_compare(first: *const u8, first_bytes: usize, second: *const u8, second_bytes: usize) -> Comparison;
     pub fn ozp_curve(parameters: Parameters) -> CurvePoints;
     pub fn ozp_price_at(parameters: Parameters, k: u32) -> CurvePrice;

@@ -1,4 +1,4 @@
-//! Why a book or parameters are refused.
+//! Why a book, parameters or rows are refused.
 
 use crate::words;
 use std::error::Error;
@@ -27,6 +27,8 @@ pub enum Refusal {
     RepeatedResource { row: u32 },
     /// 9: a result buffer has fewer entries than the book has offers.
     ShortBuffer(Buffer),
+    /// 19: more than 600 rows.
+    TooManyRows,
     /// 20: the room lent is too small.
     ShortRoom,
     /// A number or a place that this version of the crate has no name for.
@@ -76,6 +78,7 @@ impl Refusal {
             Refusal::OfferOutOfRange { .. } => 7,
             Refusal::RepeatedResource { .. } => 8,
             Refusal::ShortBuffer(_) => 9,
+            Refusal::TooManyRows => 19,
             Refusal::ShortRoom => 20,
             Refusal::Unnamed { number, .. } => number,
         }
@@ -84,7 +87,7 @@ impl Refusal {
     /// The place in the table's numbers: a block, a field, a row or a buffer, else 0.
     pub fn place(self) -> u32 {
         match self {
-            Refusal::WrongLength | Refusal::ShortRoom => 0,
+            Refusal::WrongLength | Refusal::TooManyRows | Refusal::ShortRoom => 0,
             Refusal::WrongCheck { block } | Refusal::WrongLayout { block } => block,
             Refusal::MissingParameter(field) | Refusal::ParameterOutOfRange(field) => field as u32,
             Refusal::UnpricedOffer { row } | Refusal::OfferOutOfRange { row } | Refusal::RepeatedResource { row } => row,
@@ -106,6 +109,7 @@ impl Refusal {
             7 => Some(Refusal::OfferOutOfRange { row: place }),
             8 => Some(Refusal::RepeatedResource { row: place }),
             9 => BUFFERS.get(at).copied().map(Refusal::ShortBuffer),
+            19 if place == 0 => Some(Refusal::TooManyRows),
             20 if place == 0 => Some(Refusal::ShortRoom),
             _ => None,
         };

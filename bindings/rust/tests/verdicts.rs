@@ -57,13 +57,15 @@ fn every_refusal_of_a_book_occurs_and_has_its_sentence() {
 
 #[test]
 fn numbers_and_places_make_their_refusal_again() {
-    for (number, place) in [(1, 0), (2, 40), (3, 0), (4, 2), (5, 1), (6, 599), (7, 0), (8, 1), (9, 2), (20, 0), (9, 3), (77, 5)]
+    for (number, place) in
+        [(1, 0), (2, 40), (3, 0), (4, 2), (5, 1), (6, 599), (7, 0), (8, 1), (9, 2), (19, 0), (20, 0), (9, 3), (77, 5)]
     {
         let refusal = Refusal::of(number, place);
         assert_eq!((refusal.number(), refusal.place()), (number, place));
         assert_eq!(matches!(refusal, Refusal::Unnamed { .. }), number == 77 || place == 3);
     }
     assert_eq!(Refusal::of(9, 1).to_string(), "refused 9 at buffer 1 (cleared): a result buffer has fewer entries than offers");
+    assert_eq!(Refusal::of(19, 0).to_string(), "refused 19 at 0: more than 600 rows");
     assert_eq!(Refusal::of(20, 0).to_string(), "refused 20 at 0: the room lent is too small");
 }
 

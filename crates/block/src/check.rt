@@ -14,7 +14,7 @@ ghost use Rattle.block.specs.Check.{checkHolds};
 
 // Both sums of bytes 0 to 507: over each column, then over the columns, then over the bytes before them. From row to row are
 // sixteen places, so that the columns' totals count sixteen times: they are doubled four times.
-fn check_sums(s: &[u8]) -> Running
+pub fn check_sums(s: &[u8]) -> Running
     requires { ⌜ 512 ≤ length (now s) ⌝ }
     ensures { λ r. ⌜ r .sum ≡ blockSum (now (s .entry)) % 65536 ⌝ }
     ensures { λ r. ⌜ r .total ≡ blockTotal (now (s .entry)) % 65536 ⌝ }

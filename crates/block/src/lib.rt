@@ -4,5 +4,7 @@ pub mod check;
 mod columns;
 mod running;
 
+pub use running::Running;
+
 // How many bytes a block has.
 pub const SIZE: usize = 512;

@@ -1,7 +1,7 @@
 -- The contracts of this crate leave one answer and one content of each column: any two that a contract allows for the same
 -- bytes coincide.
 --
--- In order: `verdict` and `soundness`, wherever the books lie; what a book says before its rows; the rows in columns.
+-- In order: `verdict` and `soundness`, wherever the books lie; what a book says before its rows; the rows in columns, and alone.
 -- Assumes nothing.
 use mathlib.Core.Path.{_≡_, sym, ap, _∙_}
 use mathlib.Core.Bool.{Bool}
@@ -10,6 +10,9 @@ use Prim.Native.Nat.{ℕ}
 use contract.Lifetimes.{Lfts}
 use denote.Ref.{RefT, now}
 use Rattle.values.specs.declared.Verdict.{Verdict}
+use Rattle.values.specs.Contents.{offerAt}
+use Rattle.layout.specs.Read.{rowOffers}
+use Rattle.limits.specs.Offers.{rowsFault}
 use Rattle.book.specs.Faults.{firstFault, soundFault}
 use Rattle.book.specs.inner.Rows.{RowsRead}
 use Rattle.book.specs.declared.Opening.{Opening}
@@ -17,6 +20,7 @@ use Rattle.columns.specs.inner.Columns.{Columns, columnsOf}
 use Rattle.values.specs.declared.place.Offer.{Offer}
 use Rattle.book.proofs.opened.Reads as opened
 use Rattle.book.proofs.rows.read_rows.Reads as read-rows
+use Rattle.book.proofs.rows.rows_fault.Reads as rows-fault
 use Rattle.book.proofs.verdict.Reads as verdict
 use Rattle.book.proofs.soundness.Reads as soundness
 
@@ -72,3 +76,12 @@ pub read-rows-decided : (κs : Lfts 6) (book : RefT (List ℕ)) (first n : ℕ) 
     × (columnsOf (now p₁) (now q₁) (now l₁) (now m₁) (now t₁) ≡ columnsOf (now p₂) (now q₂) (now l₂) (now m₂) (now t₂))
 read-rows-decided κs book first n needed p q l m t p₁ q₁ l₁ m₁ t₁ p₂ q₂ l₂ m₂ t₂ r s e f =
     rows-alone needed _ r s _ _ _ e f
+
+-- the first fault of a book's rows alone, by the contract of `rows_fault`
+pub rows-fault-decided : (κs : Lfts 1) (book other : RefT (List ℕ)) (n : ℕ) (needed : Bool) (r s : Verdict)
+    → now book ≡ now other
+    → rows-fault.Post κs (book, (n, (needed, tt))) r (book, (n, (needed, tt)))
+    → rows-fault.Post κs (other, (n, (needed, tt))) s (other, (n, (needed, tt)))
+    → r ≡ s
+rows-fault-decided κs book other n needed r s same e f =
+    e ∙ ap (λ (b : List ℕ). rowsFault needed (offerAt (rowOffers b 1 n)) n) same ∙ sym f

@@ -83,7 +83,7 @@ pub fn read_rows(
 }
 
 // The first fault of the n offers of a book alone.
-pub(crate) fn rows_fault(book: &[u8], n: u32, needed: bool) -> Verdict
+pub fn rows_fault(book: &[u8], n: u32, needed: bool) -> Verdict
     requires { ⌜ Inside (now book) 1 n ⌝ }
     ensures { λ r. ⌜ r ≡ rowsFault needed (offerAt (rowOffers (now (book .entry)) 1 n)) n ⌝ }
 {

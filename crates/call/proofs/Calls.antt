@@ -11,7 +11,7 @@ use native.Mathlib.Omega.{arith}
 use lib.Dec.{leb}
 use lib.ListN.{length}
 use borrow.Author.Tests.{le-leb, leb-true}
-use Rattle.values.specs.Refusals.{unless, andThen, shortBuffer}
+use Rattle.values.specs.Refusals.{unless, andThen, shortBuffer, bufferBy}
 use Rattle.values.specs.Contents.{offerAt}
 use Rattle.values.specs.declared.Verdict.{Verdict}
 use Rattle.values.specs.declared.Verdict.the-variants.{Passed, Refused}
@@ -34,7 +34,7 @@ use Rattle.book.proofs.Accepted.{accepted-clearable}
 use Rattle.sale.specs.inner.Sale.{Stands, ClearedAs}
 use Rattle.sale.specs.Payment.{clearingOf, clearedList, committedList}
 use Rattle.sale.specs.declared.Clearing.{Clearing}
-use Rattle.call.specs.Answer.{Outcome, answerOf, answerBy, bufferBy, bufferFault, callFault}
+use Rattle.call.specs.Answer.{Outcome, answerOf, answerBy, bufferFault, callFault}
 use Rattle.call.specs.declared.Answer.{Answer}
 use Rattle.call.specs.declared.Answer.the-variants.{Cleared as Answer·Cleared, Refused as Answer·Refused}
 

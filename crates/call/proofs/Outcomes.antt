@@ -8,12 +8,13 @@ use mathlib.Core.List.{List}
 use Prim.Native.Nat.{ℕ, _<_}
 use lib.ListN.{length, getD}
 use Rattle.laws.proofs.Fills.{getD-filled}
+use Rattle.values.specs.Refusals.{bufferBy}
 use Rattle.values.specs.declared.Verdict.{Verdict}
 use Rattle.values.specs.declared.Verdict.the-variants.{Passed, Refused}
 use Rattle.layout.specs.Read.{contentsOf}
 use Rattle.book.specs.Faults.{firstFault}
 use Rattle.sale.specs.Auction.{rowCleared, rowCommitted}
-use Rattle.call.specs.Answer.{Outcome, answerBy, bufferBy, callFault}
+use Rattle.call.specs.Answer.{Outcome, answerBy, callFault}
 use Rattle.sale.specs.Payment.{clearingOf, clearedList, committedList}
 use Rattle.sale.specs.declared.Clearing.{Clearing}
 use Rattle.call.specs.declared.Answer.{Answer}

@@ -5,7 +5,7 @@ use mathlib.Core.Path.{_≡_}
 use mathlib.Core.List.{List}
 use lib.ListN.{length}
 use lib.Dec.{leb}
-use Rattle.values.specs.Refusals.{unless, andThen, shortBuffer}
+use Rattle.values.specs.Refusals.{unless, andThen, shortBuffer, bufferBy}
 use Rattle.values.specs.declared.Verdict.{Verdict}
 use Rattle.values.specs.declared.Verdict.the-variants.{Passed, Refused}
 use Rattle.layout.specs.Read.{contentsOf}
@@ -32,11 +32,6 @@ answerBy (Refused number place) clearing = Answer·Refused number place
 -- the answer where no buffer is asked for: the book's own first fault, or its clearing
 abbrev pub answerOf : List ℕ → Answer
 answerOf b = answerBy (firstFault b) (clearingOf (contentsOf b))
-
--- a refusal leaves a buffer as it was
-abbrev pub bufferBy : Verdict → List ℕ → List ℕ → List ℕ
-bufferBy Passed before after = after
-bufferBy (Refused number place) before after = before
 
 -- The outcome of a call: the answer, and both buffers as it leaves them. Each row has its cleared and its committed tenths;
 -- entries past the last row are not touched.

@@ -1,7 +1,7 @@
 -- What it means for later code that a book passed refusals 1, 2 and 3.
 --
--- In order: a section whose blocks passed; each of the three passed; the book's length, the number of its offers, and how
--- they fit; where a row's block stands; that the row's own bytes are laid out as a used place.
+-- In order: a section whose blocks passed; each of the three passed; each block's check and layout; the book's length, the
+-- number of its offers, and how they fit; where a row's block stands; that the row's own bytes are laid out as a used place.
 -- Assumes nothing.
 use mathlib.Core.Path.{_≡_}
 use mathlib.Core.Bool.{true}
@@ -9,6 +9,7 @@ use mathlib.Core.List.{List}
 use Prim.Native.Nat.{ℕ, _+_, _*_, _/_, _%_, _≤_, _<_}
 use native.Mathlib.Omega.{arith}
 use lib.ListN.{length}
+use Rattle.block.specs.Check.{checkHolds}
 use Rattle.values.specs.Refusals.{unless, andThen, wrongLayout}
 use Rattle.values.specs.declared.Verdict.the-variants.{Passed}
 use Rattle.values.proofs.Firsts.{unless-passed, andThen-left, andThen-right, first-at}
@@ -19,17 +20,22 @@ use Rattle.layout.specs.Form.{lengthFault, checkFault, offerCount, offer
 use Rattle.layout.specs.declared.section.Section.{Section}
 use Rattle.layout.proofs.Holding.{LengthHolds, length-holds, CountHolds, head-holds, rows-hold-used}
 
--- a section that passed: each row's own bytes are laid out as a used place
+-- a section that passed: each of its blocks holds
+section-passed-block : (b : List ℕ) (t : Section) → sectionFault b t ≡ Passed → (j : ℕ) → j < blocksFor (t .rows)
+    → rowsHold t (blockOf b (t .first + j)) (t .number + j) (rowsHere (t .rows) j) ≡ true
+unfolding sectionFault blockFault
+section-passed-block b t passed j l =
+    unless-passed (rowsHold t (blockOf b (t .first + j)) (t .number + j) (rowsHere (t .rows) j)) 3 (t .number + j)
+    (first-at (blockFault b t) (blocksFor (t .rows)) j passed l)
+
+-- and each row's own bytes are laid out as a used place
 pub section-passed-used : (b : List ℕ) (t : Section) → sectionFault b t ≡ Passed
     → (row : ℕ) → row < t .rows → usedHolds (t .last) (rowBytes b (t .first) row) ≡ true
-unfolding sectionFault blockFault rowBytes
+unfolding rowBytes
 section-passed-used b t passed row l =
     let j : ℕ = row / 15 in
-    let s : List ℕ = blockOf b (t .first + j) in
-    let here : ℕ = rowsHere (t .rows) j in
-    rows-hold-used t s (t .number + j) here (row % 15)
-    (unless-passed (rowsHold t s (t .number + j) here) 3 (t .number + j)
-    (first-at (blockFault b t) (blocksFor (t .rows)) j passed (omega arith)))
+    rows-hold-used t (blockOf b (t .first + j)) (t .number + j) (rowsHere (t .rows) j) (row % 15)
+    (section-passed-block b t passed j (omega arith))
     (omega arith)
     (omega arith)
 
@@ -45,16 +51,30 @@ module _ (b : List ℕ) (passed : formFault b ≡ Passed) where
       andThen-right (checkFault b) (layoutFault b)
       (andThen-right (lengthFault b) (andThen (checkFault b) (layoutFault b)) passed)
 
-  -- block 0 holds, and so do the offer blocks
-  count-part : CountHolds (blockCount b) (offerCount b)
-  unfolding layoutFault
-  count-part =
-      head-holds (blockOf b 0) (blockCount b)
-      (unless-passed (headHolds (blockOf b 0) (blockCount b)) 3 0 (andThen-left _ _ layout-part))
-
   section-part : sectionFault b (offersSection b) ≡ Passed
   unfolding layoutFault
   section-part = andThen-right (unless (headHolds (blockOf b 0) (blockCount b)) (wrongLayout 0)) _ layout-part
+
+  -- each block's check holds
+  pub form-passed-check : (k : ℕ) → k < blockCount b → checkHolds (blockOf b k) ≡ true
+  unfolding formFault checkFault
+  form-passed-check k l =
+      let checks : checkFault b ≡ Passed =
+      andThen-left (checkFault b) (layoutFault b)
+      (andThen-right (lengthFault b) (andThen (checkFault b) (layoutFault b)) passed) in
+      unless-passed (checkHolds (blockOf b k)) 2 k (first-at _ (blockCount b) k checks l)
+
+  -- block 0 holds, and so does each offer block
+  pub form-passed-head : headHolds (blockOf b 0) (blockCount b) ≡ true
+  unfolding layoutFault
+  form-passed-head = unless-passed (headHolds (blockOf b 0) (blockCount b)) 3 0 (andThen-left _ _ layout-part)
+
+  pub form-passed-block : (j : ℕ) → j < blocksFor (offerCount b)
+      → rowsHold (offersSection b) (blockOf b (1 + j)) (1 + j) (rowsHere (offerCount b) j) ≡ true
+  form-passed-block = section-passed-block b (offersSection b) section-part
+
+  count-part : CountHolds (blockCount b) (offerCount b)
+  count-part = head-holds (blockOf b 0) (blockCount b) form-passed-head
 
   -- the book has one block at least
   pub form-passed-length : 512 ≤ length b

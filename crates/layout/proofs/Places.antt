@@ -23,16 +23,16 @@ use Rattle.layout.specs.declared.section.LastBytes.{LastBytes}
 use Rattle.layout.proofs.Last.{same-test}
 
 -- zero bytes, one by one
-blank-at : (s : List ℕ) (from n i : ℕ) → blank s from n ≡ true → i < n → byte s (from + i) ≡ 0
+pub blank-at : (s : List ℕ) (from n i : ℕ) → blank s from n ≡ true → i < n → byte s (from + i) ≡ 0
 unfolding blank
 blank-at s from n i e l = eqb-true _ _ (every-at _ n i e l)
 
-blank-all : (s : List ℕ) (from n : ℕ) → ((i : ℕ) → i < n → byte s (from + i) ≡ 0) → blank s from n ≡ true
+pub blank-all : (s : List ℕ) (from n : ℕ) → ((i : ℕ) → i < n → byte s (from + i) ≡ 0) → blank s from n ≡ true
 unfolding blank
 blank-all s from n h = every-all _ n (λ i l. eq-eqb _ _ (h i l))
 
 -- a byte of a place
-place-byte : (s : List ℕ) (i j : ℕ) → j < 32 → byte (placeOf s i) j ≡ byte s (28 + i * 32 + j)
+pub place-byte : (s : List ℕ) (i j : ℕ) → j < 32 → byte (placeOf s i) j ≡ byte s (28 + i * 32 + j)
 unfolding placeOf
 place-byte s i j l = rw (getD-take, getD-drop)
 

@@ -22,6 +22,9 @@ use Rattle.plain.specs.Answers.{exported}
 use Rattle.ozpinduru.specs.Export.{Returned}
 use Rattle.plain.specs.Listed.{Read}
 use Rattle.words.proofs.Decided.{told-same}
+use Rattle.plain.specs.Given.{contentsIn}
+use Rattle.lent.specs.Wrote.{Wrote}
+use Rattle.lent.proofs.Decided.{wrote-same}
 use Rattle.plain.specs.declared.structs.OzpAnswer.{OzpAnswer}
 use Rattle.plain.specs.declared.structs.OzpContents.{OzpContents}
 use Rattle.plain.specs.declared.structs.OzpCurve.{OzpCurve}
@@ -39,6 +42,7 @@ use Rattle.ozpinduru.proofs.export.ozp_version.Reads as ozp-version
 use Rattle.ozpinduru.proofs.texts.ozp_report.Reads as ozp-report
 use Rattle.ozpinduru.proofs.texts.ozp_words.Reads as ozp-words
 use Rattle.ozpinduru.proofs.read.ozp_read as ozp-read
+use Rattle.ozpinduru.proofs.write.ozp_write as ozp-write
 
 -- what is returned and left in both buffers, by what a `Returned` says of the same book and buffers
 returned-same : (b cleared committed : List ℕ) (r s : OzpAnswer) (cleared₁ committed₁ cleared₂ committed₂ : List ℕ)
@@ -135,3 +139,21 @@ module _ {M : Type 1} (𝓤 : URA M) (H : Heap 𝓤) (A : Atoms 𝓤) (mem : Mem
       guard-conj 𝓤 (Read (now book₁) (now rows₁) r rows₁′) (emp 𝓤) (Promised book₂ rows₂ s rows₂′)
       (λ x. conj-guard 𝓤 (Read (now book₂) (now rows₂) s rows₂′) (emp 𝓤) (emp 𝓤)
       (λ y. factI 𝓤 _ _ (read-same (now book₁) (now rows₁) r s rows₁′ rows₂′ x (rw (e, f) y))))
+
+-- ---- a book in lent room
+
+module _ {M : Type 1} (𝓤 : URA M) (H : Heap 𝓤) (A : Atoms 𝓤) (mem : Memory → SProp 𝓤) (run : Routine → Fun 𝓤)
+    (κs : Lfts 2) (p : OzpParameters) where
+  -- what the contract of `ozp_write`, which is walked by hand too, says of what is returned and of the room at exit
+  abbrev Written : RefT (List OzpRow) → RefT (List ℕ) → OzpText → List ℕ → SProp 𝓤
+  Written rows room r room′ =
+      ozp-write.clauses 𝓤 H A mem run κs (p, (rows, (room, tt))) .ensures tt r (atExit ozp-write.ended κs (p, (rows, (room, tt))) (tt, (tt, (room′, tt))))
+
+  -- where it says both of the same parameters, entries and room, both are the same: what is returned, and the room
+  pub ozp-write-decided : (rows₁ rows₂ : RefT (List OzpRow)) (room₁ room₂ : RefT (List ℕ)) (r s : OzpText) (room₁′ room₂′ : List ℕ)
+      → now rows₁ ≡ now rows₂ → now room₁ ≡ now room₂
+      → ent 𝓤 (conj 𝓤 (Written rows₁ room₁ r room₁′) (Written rows₂ room₂ s room₂′)) (fact 𝓤 ((r ≡ s) × (room₁′ ≡ room₂′)))
+  ozp-write-decided rows₁ rows₂ room₁ room₂ r s room₁′ room₂′ e f =
+      guard-conj 𝓤 (Wrote (contentsIn p (now rows₁)) (now room₁) r room₁′) (emp 𝓤) (Written rows₂ room₂ s room₂′)
+      (λ x. conj-guard 𝓤 (Wrote (contentsIn p (now rows₂)) (now room₂) s room₂′) (emp 𝓤) (emp 𝓤)
+      (λ y. factI 𝓤 _ _ (wrote-same (contentsIn p (now rows₁)) (now room₁) r s room₁′ room₂′ x (rw (e, f) y))))

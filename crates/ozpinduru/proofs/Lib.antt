@@ -1,3 +1,4 @@
 pub mod Exports
+pub mod BookArray
 pub mod Decided
 pub mod Comparisons

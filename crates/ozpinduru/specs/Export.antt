@@ -20,6 +20,6 @@ pub record Returned (b cleared committed : List ℕ) (r : OzpAnswer) (cleared′
   pub answer : r ≡ exported (answerTo b (length cleared) (length committed)) (length (contentsOf b .offers))
   pub outcome : Outcome b cleared committed (answerTo b (length cleared) (length committed)) cleared′ committed′
 
--- the version of the interface: 0.5.0
+-- the version of the interface: 0.6.0
 abbrev pub version : ℕ
-version = 5000
+version = 6000

@@ -3,3 +3,4 @@ pub mod compared;
 pub mod export;
 pub mod read;
 pub mod texts;
+pub mod write;

@@ -18,8 +18,10 @@ use Rattle.plain.specs.declared.structs.OzpCurve.{OzpCurve}
 use Rattle.plain.specs.declared.structs.OzpParameters.{OzpParameters}
 use Rattle.plain.specs.declared.structs.OzpPrice.{OzpPrice}
 use Rattle.plain.specs.declared.structs.OzpRow.{OzpRow}
+use Rattle.values.specs.declared.place.Offer.{Offer}
 use Rattle.plain.proofs.answers.answer.Reads as answer
 use Rattle.plain.proofs.answers.rows_stated.Reads as rows-stated
+use Rattle.plain.proofs.given.offer_in.Reads as offer-in
 use Rattle.plain.proofs.given.parameters_in.Reads as parameters-in
 use Rattle.plain.proofs.listed.contents.Reads as contents
 use Rattle.plain.proofs.listed.filled.Reads as filled
@@ -47,6 +49,11 @@ rows-stated-decided κs book other r s same e f = e ∙ ap rowsStated same ∙ s
 pub parameters-in-decided : (p : OzpParameters) (r s : Parameters)
     → parameters-in.Post tt (p, tt) r (p, tt) → parameters-in.Post tt (p, tt) s (p, tt) → r ≡ s
 parameters-in-decided p r s e f = e ∙ sym f
+
+-- a row that is handed in, by the contract of `offer_in`
+pub offer-in-decided : (row : OzpRow) (r s : Offer)
+    → offer-in.Post tt (row, tt) r (row, tt) → offer-in.Post tt (row, tt) s (row, tt) → r ≡ s
+offer-in-decided row r s e f = e ∙ sym f
 
 -- ---- what a book says
 

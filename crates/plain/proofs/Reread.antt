@@ -1,7 +1,7 @@
 -- What the plain structs keep of what a book says.
 --
--- In order: a value that goes out and comes in again is the same, and so are parameters; rows that go out alike are the same offer;
--- what stands in an entry of the array, filled or not.
+-- In order: a value that goes out and comes in again is the same, and so are parameters and offers; rows that go out alike are the
+-- same offer; what stands in an entry of the array, filled or not.
 -- Assumes nothing.
 use mathlib.Core.Path.{_≡_, refl, sym, ap, _∙_}
 use mathlib.Core.List.{List}
@@ -14,12 +14,12 @@ use Rattle.values.specs.declared.Value.{Value}
 use Rattle.values.specs.declared.Value.the-variants.{Given, Missing}
 use Rattle.values.specs.declared.head.Parameters.{Parameters}
 use Rattle.values.specs.declared.place.Offer.{Offer}
-use Rattle.plain.specs.Given.{valueIn, parametersIn}
+use Rattle.plain.specs.Given.{valueIn, parametersIn, offerIn}
 use Rattle.plain.specs.Listed.{valueOut, offerOut, contentsOut, filledRows}
 use Rattle.plain.specs.declared.structs.OzpRow.{OzpRow}
 use Rattle.plain.proofs.Listings.{length-filled}
 
--- ---- values and parameters
+-- ---- values, parameters and offers
 
 value-again : (v : Value) → valueIn (valueOut v) ≡ v
 unfolding valueIn
@@ -38,21 +38,21 @@ parameters-again p rows =
       margin = value-again (p .margin) i;
     }
 
--- values that go out alike are the same
-value-told : (v w : Value) → valueOut v ≡ valueOut w → v ≡ w
-value-told v w e = sym (value-again v) ∙ ap valueIn e ∙ value-again w
+-- So is an offer.
+pub offer-again : (o : Offer) → offerIn (offerOut o) ≡ o
+offer-again o =
+    λ i. record {
+      resource = o .resource;
+      seller = o .seller;
+      price = value-again (o .price) i;
+      quantity = o .quantity;
+      block = value-again (o .block) i;
+      stamp = o .stamp;
+    }
 
 -- Rows that are shown alike are the same offer: nothing is lost, and no value needs to be in any range.
 pub offer-told : (o p : Offer) → offerOut o ≡ offerOut p → o ≡ p
-offer-told o p e =
-    λ i. record {
-      resource = e i .resource;
-      seller = e i .seller;
-      price = value-told (o .price) (p .price) (λ j. e j .price) i;
-      quantity = e i .quantity;
-      block = value-told (o .block) (p .block) (λ j. e j .block) i;
-      stamp = e i .stamp;
-    }
+offer-told o p e = sym (offer-again o) ∙ ap offerIn e ∙ offer-again p
 
 -- ---- the entries of the array
 

@@ -1,7 +1,8 @@
--- The table of refusals, and how tests follow one another.
+-- The table of refusals, how tests follow one another, and what a refusal leaves as it was.
 -- Assumes nothing.
 use Prim.Native.Nat.{ℕ, zero, suc}
 use mathlib.Core.Bool.{Bool, true, false}
+use mathlib.Core.List.{List}
 use Rattle.values.specs.declared.Verdict.{Verdict}
 use Rattle.values.specs.declared.Verdict.the-variants.{Passed, Refused}
 
@@ -44,6 +45,10 @@ repeatedResource row = Refused 8 row
 abbrev pub shortBuffer : ℕ → Verdict
 shortBuffer buffer = Refused 9 buffer
 
+-- 19: more than 600 rows are to be written; place 0
+abbrev pub tooManyRows : Verdict
+tooManyRows = Refused 19 0
+
 -- 20: the room lent is too small; place 0
 abbrev pub shortRoom : Verdict
 shortRoom = Refused 20 0
@@ -64,3 +69,10 @@ andThen (Refused number place) next = Refused number place
 unfoldable pub first : (ℕ → Verdict) → ℕ → Verdict
 first test zero = Passed
 first test (suc n) = andThen (first test n) (test n)
+
+-- ---- what is left
+
+-- a refusal leaves a buffer as it was
+abbrev pub bufferBy : Verdict → List ℕ → List ℕ → List ℕ
+bufferBy Passed before after = after
+bufferBy (Refused number place) before after = before

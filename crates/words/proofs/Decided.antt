@@ -10,12 +10,18 @@ use Rattle.plain.specs.declared.structs.OzpText.{OzpText}
 use Rattle.words.specs.Texts.{Told}
 use Rattle.words.specs.Words.{bytesOf, wordsOf}
 use Rattle.words.proofs.put_text.Reads as put-text
+use Rattle.words.proofs.refused.Reads as refused
 use Rattle.words.proofs.words.Reads as words
 
 -- what is told of one text and one room is one thing
 pub told-same : (text room : List ℕ) (r s : OzpText) (room₁ room₂ : List ℕ) → Told text room r room₁ → Told text room s room₂
     → (r ≡ s) × (room₁ ≡ room₂)
 told-same text room r s room₁ room₂ x y = (x .answered ∙ sym (y .answered), x .room-holds ∙ sym (y .room-holds))
+
+-- a refusal, by the contract of `refused`
+pub refused-decided : (number place : ℕ) (r s : OzpText)
+    → refused.Post tt (number, (place, tt)) r (number, (place, tt)) → refused.Post tt (number, (place, tt)) s (number, (place, tt)) → r ≡ s
+refused-decided number place r s e f = e ∙ sym f
 
 -- a text and the room, by the contract of `put_text`
 pub put-text-decided : (κs : Lfts 2) (room₁ text₁ room₂ text₂ room₁′ room₂′ : RefT (List ℕ)) (r s : OzpText)

@@ -7,10 +7,9 @@ use mathlib.Core.Path.{_≡_}
 use mathlib.Core.List.{List, [], _∷_, _++_}
 use lib.Dec.{leb}
 use lib.ListN.{length, drop}
-use Rattle.values.specs.Refusals.{unless, shortRoom}
+use Rattle.values.specs.Refusals.{unless, shortRoom, bufferBy}
 use Rattle.values.specs.declared.Verdict.{Verdict}
 use Rattle.values.specs.declared.Verdict.the-variants.{Passed, Refused}
-use Rattle.call.specs.Answer.{bufferBy}
 use Rattle.plain.specs.Answers.{noValue, noAmount}
 use Rattle.plain.specs.declared.structs.OzpText.{OzpText}
 

@@ -25,5 +25,6 @@ wordsOf number =
     (cond (eqb number 7) "an offer value is out of range; the row"
     (cond (eqb number 8) "a resource number stands in an earlier row; the row"
     (cond (eqb number 9) "a result buffer has fewer entries than offers; 1 cleared, 2 committed"
+    (cond (eqb number 19) "more than 600 rows; 0"
     (cond (eqb number 20) "the room lent is too small; 0"
-    "")))))))))
+    ""))))))))))

@@ -31,15 +31,15 @@ fn no_text() -> OzpText
     }
 }
 
-// 20: the room is too small.
-fn short_room() -> OzpText
-    ensures { λ r. ⌜ r ≡ textRefused 20 0 ⌝ }
+// A refusal.
+pub fn refused(number: u32, place: u32) -> OzpText
+    ensures { λ r. ⌜ r ≡ textRefused number place ⌝ }
 {
     OzpText {
         bytes: NO_AMOUNT,
         kind: 3,
-        number: 20,
-        place: 0,
+        number,
+        place,
     }
 }
 
@@ -51,7 +51,7 @@ pub fn put_text(room: &mut [u8], text: &[u8]) -> OzpText
         return no_text();
     }
     if room.len() < text.len() {
-        return short_room();
+        return refused(20, 0);
     }
     let end = put_bytes(room, 0, text);
     given(end as u64)
@@ -80,6 +80,7 @@ pub fn words(number: u32, room: &mut [u8]) -> OzpText
             room,
             b"a result buffer has fewer entries than offers; 1 cleared, 2 committed",
         ),
+        19 => put_text(room, b"more than 600 rows; 0"),
         20 => put_text(room, b"the room lent is too small; 0"),
         _ => no_text(),
     }

@@ -45,7 +45,7 @@ fn value(number: Option<u32>, changed: bool, rng: &mut Rng) -> Value {
 }
 
 /// What a value is taken for: one of another kind is out of every range.
-fn taken(value: Value) -> Option<u32> {
+pub fn taken(value: Value) -> Option<u32> {
     match value.kind {
         raw::GIVEN => Some(value.number),
         raw::MISSING => None,

@@ -6,11 +6,13 @@
 mod compare;
 mod curve;
 mod days;
+mod kinds;
 mod layouts;
 mod pairs;
 mod reading;
 mod tally;
 mod texts;
+mod writing;
 
 use oracle::random;
 use std::env;

@@ -40,13 +40,18 @@ fn refused((number, place): Fault) -> Contents {
 }
 
 fn given(book: &Book) -> Contents {
-    let &Parameters { year, cost, offset, outage, requirement, margin } = &book.parameters;
-    let [cost, offset, outage, requirement, margin] = [cost, offset, outage, requirement, margin].map(value);
-    let parameters = raw::Parameters { year, cost, offset, outage, requirement, margin };
+    let parameters = lent(&book.parameters);
     Contents { kind: raw::GIVEN, rows: book.offers.len() as u32, number: NO_VALUE, place: NO_VALUE, parameters }
 }
 
-fn row(offer: &Offer) -> Row {
+/// Parameters as they come out, and as they may go in again.
+pub fn lent(p: &Parameters) -> raw::Parameters {
+    let &Parameters { year, cost, offset, outage, requirement, margin } = p;
+    let [cost, offset, outage, requirement, margin] = [cost, offset, outage, requirement, margin].map(value);
+    raw::Parameters { year, cost, offset, outage, requirement, margin }
+}
+
+pub fn row(offer: &Offer) -> Row {
     let &Offer { resource, seller, price, quantity, block, stamp } = offer;
     Row { stamp, resource, seller, quantity, price: value(price), block: value(block) }
 }

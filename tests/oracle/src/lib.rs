@@ -4,12 +4,13 @@
 //! - `sound`: the first fault of a book whose missing values are no fault.
 //! - `printed`: what the program `clear` prints for a book.
 //! - `row`: what the reader hands back for a row.
+//! - `write`: the book that says given values, or a refusal.
 //! - `curve`, `curve_by_margin`, `price_at`, `exact_price_at`: the requirement curve, and its price in whole cents and between them.
 //! - `comparison::compare`: whether losers matter between two books.
 //!
 //! The rest by module: `book` reads and checks bytes, `parameters` selects the curve, `limits` holds the ranges, `calendar` the
 //! days of delivery years, `clearing` is the auction as a function of a falling curve and priced offers, `make` writes books,
-//! `random` makes books and calls from a seed.
+//! sound or not, `writing` refuses what no sound book says, `random` makes books, calls and contents from a seed.
 //!
 //! Every sentence of the outline is written as directly as it can be read. Speed comes second. `cargo test --release` here runs
 //! the outline's cases, an exhaustive search over small auctions, and the books of crates/verdicts/data.
@@ -24,9 +25,11 @@ pub mod limits;
 pub mod make;
 pub mod parameters;
 pub mod random;
+pub mod writing;
 
 pub use curve::{curve, curve_by_margin, price_at, Point};
 pub use exact::{exact_price_at, ExactPrice};
+pub use writing::write;
 
 use clearing::Priced;
 

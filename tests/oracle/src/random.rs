@@ -4,6 +4,7 @@
 //! as they were or made right again, or a buffer too short.
 
 mod columns;
+pub mod contents;
 pub mod damage;
 pub mod pairs;
 pub mod valid;

@@ -1,8 +1,8 @@
 """The command `ozp`. Each word of it is a module of this folder whose name has no underscore in front: its docstring is the
 help, `arguments(parser)` adds what it takes, and `run(asked)` does it and returns the exit status.
 
-Exit status: 0 where every book cleared or nothing cleared, 1 where one was refused, 2 for bad usage or what cannot be read or
-written.
+Exit status: 0 where every book cleared, nothing cleared, or was read or written; 1 where one was refused; 2 for bad usage or what
+cannot be read or written.
 """
 import argparse
 import importlib
@@ -26,8 +26,8 @@ class _Parser(argparse.ArgumentParser):
 
 
 def _parser() -> argparse.ArgumentParser:
-    parser = _Parser(prog="ozp", description="Clears capacity auctions with the proved library.",
-                     epilog="Exit status: 0 cleared or nothing cleared, 1 refused, 2 bad usage or what cannot be read or written.")
+    parser = _Parser(prog="ozp", description="Clears capacity auctions, and reads and writes their books, with the proved library.",
+                     epilog="Exit status: 0 answered, 1 refused, 2 bad usage or what cannot be read or written.")
     parser.add_argument("--version", action="version", version=f"ozp {__version__}")
     words = parser.add_subparsers(metavar="WORD", required=True)
     for found in pkgutil.iter_modules(__path__):

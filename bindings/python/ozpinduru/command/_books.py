@@ -30,14 +30,14 @@ def shown(name: str) -> str:
     return name if name.isprintable() else ascii(name)
 
 
-def read(name: str) -> bytes:
-    """The bytes of a book, and of a longer file one byte more than any book has."""
+def read(name: str, most: int = BOOK_BYTES + 1) -> bytes:
+    """The bytes of a book, and of a longer file one byte more than any book has; or so many as are asked for, -1 for all."""
     if name != "-":
         with open(name, "rb") as file:
-            return file.read(BOOK_BYTES + 1)
+            return file.read(most)
     if sys.stdin is None:
         raise OSError(0, "standard input is shut")
-    return sys.stdin.buffer.read(BOOK_BYTES + 1)
+    return sys.stdin.buffer.read(most)
 
 
 def opened(name: str) -> Optional[bytes]:

@@ -11,11 +11,11 @@ no-text-requires c κs = search needs
 returns : tie.Need-returns
 returns c = rw (c .no-text .ensures) (told-none _ _ (c .before .if1 .taken))
 
-short-room-requires : tie.Need-short-room-requires
-short-room-requires c κs = search needs
+refused-requires : tie.Need-refused-requires
+refused-requires c κs = search needs
 
 returns-2 : tie.Need-returns-2
-returns-2 c = rw (c .short-room .ensures) (told-short _ _ (c .before .if2 .taken))
+returns-2 c = rw (c .refused .ensures) (told-short _ _ (c .before .if2 .taken))
 
 put-bytes-requires : tie.Need-put-bytes-requires
 put-bytes-requires c κs = search needs
@@ -37,7 +37,7 @@ put-text-spec =
     (tie.spec
     no-text-requires
     returns
-    short-room-requires
+    refused-requires
     returns-2
     put-bytes-requires
     given-requires

@@ -68,6 +68,12 @@ slice-aggregate-put-text-10 c = search needs
 put-text-requires-10 : tie.Need-put-text-requires-10
 put-text-requires-10 c κs = search needs
 
+slice-aggregate-put-text-11 : tie.Need-slice-aggregate-put-text-11
+slice-aggregate-put-text-11 c = search needs
+
+put-text-requires-11 : tie.Need-put-text-requires-11
+put-text-requires-11 c κs = search needs
+
 no-text-requires : tie.Need-no-text-requires
 no-text-requires c κs = search needs
 
@@ -141,11 +147,18 @@ returns-10 : tie.Need-returns-10
 unfolding bytesOf wordsOf
 returns-10 c = told-as (words-known (c .before .before .before .before .before .match .keys10)) (c .before .before .put-text10 .ensures)
 
+same-length-11 : tie.Need-same-length-11
+same-length-11 c = search needs
+
 returns-11 : tie.Need-returns-11
-returns-11 c =
+unfolding bytesOf wordsOf
+returns-11 c = told-as (words-known (c .before .before .before .before .before .match .keys11)) (c .before .before .put-text11 .ensures)
+
+returns-12 : tie.Need-returns-12
+returns-12 c =
     let m = c .before .match .rest in
     rw (c .no-text .ensures)
-    (told-none _ _ (ap length (words-none _ (m .0 .0 .0 .0 .0 .0 .0 .0 .0 .1) (m .0 .0 .0 .0 .0 .0 .0 .0 .1) (m .0 .0 .0 .0 .0 .0 .0 .1) (m .0 .0 .0 .0 .0 .0 .1) (m .0 .0 .0 .0 .0 .1) (m .0 .0 .0 .0 .1) (m .0 .0 .0 .1) (m .0 .0 .1) (m .0 .1) (m .1))))
+    (told-none _ _ (ap length (words-none _ (m .0 .0 .0 .0 .0 .0 .0 .0 .0 .0 .1) (m .0 .0 .0 .0 .0 .0 .0 .0 .0 .1) (m .0 .0 .0 .0 .0 .0 .0 .0 .1) (m .0 .0 .0 .0 .0 .0 .0 .1) (m .0 .0 .0 .0 .0 .0 .1) (m .0 .0 .0 .0 .0 .1) (m .0 .0 .0 .0 .1) (m .0 .0 .0 .1) (m .0 .0 .1) (m .0 .1) (m .1))))
 
 pub words-spec : {M : Type 1} → statement M
 words-spec =
@@ -171,6 +184,8 @@ words-spec =
     put-text-requires-9
     slice-aggregate-put-text-10
     put-text-requires-10
+    slice-aggregate-put-text-11
+    put-text-requires-11
     no-text-requires
     same-length
     returns
@@ -192,4 +207,6 @@ words-spec =
     returns-9
     same-length-10
     returns-10
-    returns-11)
+    same-length-11
+    returns-11
+    returns-12)

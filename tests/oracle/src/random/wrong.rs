@@ -17,7 +17,7 @@ pub fn faulty(rng: &mut Rng) -> Vec<u8> {
     make::book(&parameters, &offers)
 }
 
-fn spoil_parameter(rng: &mut Rng, p: &mut Parameters) {
+pub(super) fn spoil_parameter(rng: &mut Rng, p: &mut Parameters) {
     let over_cost = p.cost.unwrap_or(1_000_000).saturating_add(1);
     match rng.draw() % 13 {
         0 => p.year = rng.pick(&[0, 1, 1999, 2021, 2100, 65_535]),
@@ -36,7 +36,7 @@ fn spoil_parameter(rng: &mut Rng, p: &mut Parameters) {
     }
 }
 
-fn spoil_row(rng: &mut Rng, offers: &mut [Offer]) {
+pub(super) fn spoil_row(rng: &mut Rng, offers: &mut [Offer]) {
     let other = rng.pick(offers).resource;
     let row = rng.index(offers.len());
     let offer = &mut offers[row];

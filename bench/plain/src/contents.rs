@@ -1,0 +1,149 @@
+//! What a book says, read from its bytes and written to them.
+
+use crate::block::{sums, u16_at, u32_at, BLOCK};
+use crate::book::{Book, MOST_OFFERS, PLACE, PLACES};
+use crate::manner::Manner;
+use crate::Fault;
+use std::collections::HashSet;
+
+/// The year, then C, E, F, R and the reserve margin in `values`, and the rows.
+#[derive(Clone, Debug, PartialEq, Eq)]
+pub struct Contents {
+    pub year: u32,
+    pub values: [Option<u32>; 5],
+    pub rows: Vec<Row>,
+}
+
+#[derive(Clone, Copy, Debug, PartialEq, Eq)]
+pub struct Row {
+    pub resource: u32,
+    pub seller: u32,
+    pub price: Option<u32>,
+    pub quantity: u32,
+    pub block: Option<u32>,
+    pub stamp: u64,
+}
+
+/// Where the values stand in block 0.
+const VALUES_AT: [usize; 5] = [8, 12, 16, 20, 28];
+
+impl Contents {
+    /// Refusals 1, 2 and 3.
+    pub fn read(bytes: &[u8]) -> Result<Contents, Fault> {
+        let offers = Book::read(bytes)?.offers;
+        let value = |bit: usize| (bytes[26] >> bit & 1 == 1).then(|| u32_at(bytes, VALUES_AT[bit]));
+        let rows = offers.iter().map(|offer| Row {
+            resource: offer.resource,
+            seller: offer.seller,
+            price: (offer.marks & 1 == 1).then_some(offer.price),
+            quantity: offer.quantity,
+            block: (offer.marks & 2 == 2).then_some(offer.block),
+            stamp: offer.stamp,
+        });
+        Ok(Contents { year: u16_at(bytes, 6).into(), values: [0, 1, 2, 3, 4].map(value), rows: rows.collect() })
+    }
+
+    /// Writes the book into the room and returns how many bytes it has; refusals 19, 5, 7, 8 and 20 leave the room.
+    pub fn write<M: Manner>(&self, room: &mut [u8]) -> Result<usize, Fault> {
+        if self.rows.len() > MOST_OFFERS {
+            return Err((19, 0));
+        }
+        self.parameters_in_range()?;
+        self.check_rows::<M>()?;
+        let bytes = BLOCK * (1 + self.rows.len().div_ceil(PLACES));
+        let book = room.get_mut(..bytes).ok_or((20, 0))?;
+        let (blocks, _) = book.as_chunks_mut::<BLOCK>();
+        self.write_head(&mut blocks[0]);
+        for ((block, rows), number) in blocks[1..].iter_mut().zip(self.rows.chunks(PLACES)).zip(1..) {
+            write_rows(block, number, rows);
+        }
+        Ok(bytes)
+    }
+
+    /// Refusal 5.
+    fn parameters_in_range(&self) -> Result<(), Fault> {
+        let within = |value: Option<u32>, least, most| value.is_none_or(|value| (least..=most).contains(&value));
+        let [cost, offset, outage, requirement, margin] = self.values;
+        let field = if !(2022..=2099).contains(&self.year) {
+            1
+        } else if !within(cost, 1, 1_000_000) {
+            2
+        } else if !within(offset, 0, cost.unwrap_or(1_000_000)) {
+            3
+        } else if !within(outage, 0, 5_000) {
+            4
+        } else if !within(requirement, 1_000, 2_000_000) {
+            5
+        } else if !within(margin, 0, 5_000) || margin.is_some() && self.year > 2025 {
+            6
+        } else {
+            return Ok(());
+        };
+        Err((5, field))
+    }
+
+    /// Refusals 7 and 8.
+    fn check_rows<M: Manner>(&self) -> Result<(), Fault> {
+        let mut seen = HashSet::with_capacity_and_hasher(self.rows.len(), M::Hashing::default());
+        for (row, at) in self.rows.iter().zip(0..) {
+            if !row.in_range() {
+                return Err((7, at));
+            }
+            if !seen.insert(row.resource) {
+                return Err((8, at));
+            }
+        }
+        Ok(())
+    }
+
+    fn write_head(&self, block: &mut [u8; BLOCK]) {
+        block.fill(0);
+        block[..6].copy_from_slice(b"RPMB\x01\x00");
+        block[6..8].copy_from_slice(&(self.year as u16).to_le_bytes());
+        block[24..26].copy_from_slice(&(self.rows.len() as u16).to_le_bytes());
+        for (bit, (value, at)) in self.values.into_iter().zip(VALUES_AT).enumerate() {
+            block[at..at + 4].copy_from_slice(&value.unwrap_or(0).to_le_bytes());
+            block[26] |= u8::from(value.is_some()) << bit;
+        }
+        seal(block);
+    }
+}
+
+impl Row {
+    fn in_range(&self) -> bool {
+        self.resource != 0
+            && self.seller != 0
+            && self.price.is_none_or(|price| price <= 1_000_000)
+            && (1..=200_000).contains(&self.quantity)
+            && self.block.is_none_or(|block| (1..=self.quantity).contains(&block))
+    }
+
+    fn write(&self, place: &mut [u8; PLACE]) {
+        place[..4].copy_from_slice(&self.resource.to_le_bytes());
+        place[4..8].copy_from_slice(&self.seller.to_le_bytes());
+        place[8..12].copy_from_slice(&self.price.unwrap_or(0).to_le_bytes());
+        place[12..16].copy_from_slice(&self.quantity.to_le_bytes());
+        place[16..20].copy_from_slice(&self.block.unwrap_or(0).to_le_bytes());
+        place[20..28].copy_from_slice(&self.stamp.to_le_bytes());
+        let marks = u32::from(self.price.is_some()) + 2 * u32::from(self.block.is_some());
+        place[28..].copy_from_slice(&marks.to_le_bytes());
+    }
+}
+
+fn write_rows(block: &mut [u8; BLOCK], number: u16, rows: &[Row]) {
+    block[..4].copy_from_slice(b"OFRS");
+    block[4..6].copy_from_slice(&number.to_le_bytes());
+    block[6..8].copy_from_slice(&(rows.len() as u16).to_le_bytes());
+    block[8..28].fill(0);
+    let (places, _) = block[28..508].as_chunks_mut::<PLACE>();
+    let (used, unused) = places.split_at_mut(rows.len());
+    used.iter_mut().zip(rows).for_each(|(place, row)| row.write(place));
+    unused.as_flattened_mut().fill(0);
+    seal(block);
+}
+
+fn seal(block: &mut [u8; BLOCK]) {
+    let (plain, placed) = sums(block);
+    block[508..510].copy_from_slice(&plain.to_le_bytes());
+    block[510..].copy_from_slice(&placed.to_le_bytes());
+}

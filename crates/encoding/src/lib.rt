@@ -1,0 +1,1 @@
+// What bytes a book has that says given contents: definitions and laws, and no function.

@@ -1,0 +1,137 @@
+-- Rows that are put into their places one after another, as the array of a caller has them.
+--
+-- In order: the book before any row; one row more; its length; all rows that are put; what a row's numbers fit; the contract of
+-- writing, from the rows that were put.
+-- Assumes nothing.
+use mathlib.Core.Path.{_≡_, refl, sym, ap, ap₂, _∙_}
+use mathlib.Core.List.{List, [], _∷_, _++_, map}
+use Prim.Native.Nat.{ℕ, zero, suc, _+_, _*_, _≤_, _<_, min}
+use native.Mathlib.Nat.{add-zero, zero-add, suc-add, add-suc}
+use native.Mathlib.Omega.{arith}
+use lib.Dec.{eqb}
+use lib.ListN.{length, getD, take, replicate, length-append, length-take, length-map, List·getD-map}
+use lib.Seq.{take-suc, take-all, length-take-le}
+use Rattle.laws.proofs.Cases.{by-order, by-test}
+use Rattle.values.specs.Contents.{offerAt, noOffer}
+use Rattle.values.specs.declared.place.Offer.{Offer}
+use Rattle.encoding.specs.Numbers.{zeros}
+use Rattle.encoding.specs.inner.Fits.{ValueFits, OfferFits}
+use Rattle.encoding.proofs.Digits.{length-zeros}
+use Rattle.writer.specs.inner.Rows.{putRow, putRows}
+use Rattle.writer.proofs.Raw.{raw, rawBook, rows-put, length-raw}
+use Rattle.plain.specs.Given.{valueIn, offerIn, contentsIn, parametersIn}
+use Rattle.plain.specs.declared.structs.OzpParameters.{OzpParameters}
+use Rattle.plain.specs.declared.structs.OzpRow.{OzpRow}
+use Rattle.plain.specs.declared.structs.OzpText.{OzpText}
+use Rattle.plain.specs.declared.structs.OzpValue.{OzpValue}
+use Rattle.lent.specs.Wrote.{Wrote}
+use Rattle.lent.specs.inner.Finished.{Finished}
+use Rattle.lent.proofs.Writes.{finished-wrote}
+
+-- the book in which the first i rows are put
+abbrev pub placed : List OzpRow → ℕ → List ℕ
+placed rows i = putRows (zeros 20992) 0 (take i (map offerIn rows))
+
+zeros-are : (n : ℕ) → replicate n 0 ≡ zeros n
+unfolding zeros
+zeros-are zero = refl
+zeros-are (suc n) = ap (λ (s : List ℕ). 0 ∷ s) (zeros-are n)
+
+pub placed-none : (rows : List OzpRow) → replicate 20992 0 ≡ placed rows 0
+unfolding putRows
+placed-none rows = zeros-are 20992
+
+-- one row more, at the end
+rows-one : (b : List ℕ) (i : ℕ) (offers : List Offer) (o : Offer)
+    → putRow (putRows b i offers) (i + length offers) o ≡ putRows b i (offers ++ o ∷ [])
+unfolding putRows
+rows-one b i [] o = ap (λ (j : ℕ). putRow b j o) (add-zero i)
+rows-one b i (p ∷ offers) o =
+    ap (λ (j : ℕ). putRow (putRows (putRow b i p) (suc i) offers) j o) (add-suc i (length offers) ∙ sym (suc-add i (length offers)))
+    ∙ rows-one (putRow b i p) (suc i) offers o
+
+pub placed-next : (rows : List OzpRow) (i : ℕ) (d : OzpRow) → i < length rows
+    → putRow (placed rows i) i (offerIn (getD rows i d)) ≡ placed rows (suc i)
+placed-next rows i d l =
+    let offers : List Offer = map offerIn rows in
+    let many : length offers ≡ length rows = length-map rows offerIn in
+    let count : 0 + length (take i offers) ≡ i = zero-add (length (take i offers)) ∙ length-take-le i offers (omega (arith, many)) in
+    ap₂ (λ (j : ℕ) (o : Offer). putRow (placed rows i) j o) (sym count) (sym (List·getD-map offerIn rows i d))
+    ∙ rows-one (zeros 20992) 0 (take i offers) (getD offers i (offerIn d))
+    ∙ ap (putRows (zeros 20992) 0) (sym (take-suc offers i (offerIn d) (omega (arith, many))))
+
+pub length-placed : (rows : List OzpRow) (i : ℕ) → i ≤ 600 → length (placed rows i) ≡ 20992
+length-placed rows i few =
+    let some : List Offer = take i (map offerIn rows) in
+    let count : length some ≤ 600 = omega (arith, length-take i (map offerIn rows)) in
+    ap length (rows-put some count)
+    ∙ length-append (zeros 512) (raw 40 some)
+    ∙ ap₂ _+_ (length-zeros 512) (length-raw 40 some)
+
+-- all that are put: a book has 600
+pub placed-all : (rows : List OzpRow) → placed rows (min (length rows) 600) ≡ placed rows 600
+placed-all rows =
+    let offers : List Offer = map offerIn rows in
+    let many : length offers ≡ length rows = length-map rows offerIn in
+    by-order (length rows) 600
+    (λ few.
+    let all : min (length rows) 600 ≡ length rows = omega arith in
+    ap (placed rows) all
+    ∙ ap (putRows (zeros 20992) 0) (take-all (length rows) offers (omega (arith, many)) ∙ sym (take-all 600 offers (omega (arith, many)))))
+    (λ more.
+    let most : min (length rows) 600 ≡ 600 = omega arith in
+    ap (placed rows) most)
+
+-- ---- what a row's numbers fit
+
+-- the numbers of a row have their widths
+pub record Wide (row : OzpRow) : Type 0 where
+  pub stamp : row .stamp < 18446744073709551616
+  pub resource : row .resource < 4294967296
+  pub seller : row .seller < 4294967296
+  pub quantity : row .quantity < 4294967296
+  pub price : row .price .number < 4294967296
+  pub block : row .block .number < 4294967296
+
+value-fits : (v : OzpValue) → v .number < 4294967296 → ValueFits (valueIn v)
+unfolding valueIn
+value-fits v l =
+    by-test (eqb (v .kind) 1)
+    (λ e. rw e l)
+    (λ e. by-test (eqb (v .kind) 4) (λ f. rw (e, f) (omega arith)) (λ f. rw (e, f) (omega arith)))
+
+pub row-fits : (row : OzpRow) → Wide row → OfferFits (offerIn row)
+row-fits row w =
+    record {
+      resource = w .resource;
+      seller = w .seller;
+      price = value-fits (row .price) (w .price);
+      quantity = w .quantity;
+      block = value-fits (row .block) (w .block);
+      stamp = w .stamp;
+    }
+
+-- ---- writing
+
+-- what stands past the end does not matter to a row that is there
+getD-any : (l : List Offer) (i : ℕ) (d e : Offer) → i < length l → getD l i d ≡ getD l i e
+getD-any [] i d e h = absurd (omega arith)
+getD-any (o ∷ l) zero d e h = refl
+getD-any (o ∷ l) (suc i) d e h = getD-any l i d e (omega arith)
+
+-- what is made of the rows that were put is what writing means
+pub placed-wrote : (p : OzpParameters) (rows : List OzpRow) (d : OzpRow) (room : List ℕ) {r : OzpText} {b′ room′ : List ℕ}
+    → ((i : ℕ) → i < min (length rows) 600 → OfferFits (offerIn (getD rows i d)))
+    → Finished (parametersIn p) (length rows) (placed rows (min (length rows) 600)) room r b′ room′
+    → Wrote (contentsIn p rows) room r room′
+placed-wrote p rows d room {r} {b′} {room′} fit f =
+    let offers : List Offer = map offerIn rows in
+    let many : length offers ≡ length rows = length-map rows offerIn in
+    finished-wrote (parametersIn p) offers (placed rows (min (length rows) 600)) room {b′ = b′}
+    (λ i l few. fits-there i (omega (arith, many)) (fit i (omega (arith, many))))
+    (placed-all rows)
+    (rw many f)
+  where
+    fits-there : (i : ℕ) → i < length rows → OfferFits (offerIn (getD rows i d)) → OfferFits (offerAt (map offerIn rows) i)
+    fits-there i l h =
+        rw (getD-any (map offerIn rows) i noOffer (offerIn d) (omega (arith, length-map rows offerIn)), List·getD-map offerIn rows i d) h

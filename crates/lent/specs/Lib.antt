@@ -1,0 +1,2 @@
+pub mod Wrote
+pub mod inner

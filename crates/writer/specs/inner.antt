@@ -1,0 +1,3 @@
+pub mod Put
+pub mod Rows
+pub mod Made
