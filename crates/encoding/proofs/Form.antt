@@ -23,7 +23,8 @@ use Rattle.layout.specs.Section.{blocksFor, rowsHere, rowsHold, blockFault, sec
 use Rattle.layout.specs.Layout.{headHolds}
 use Rattle.layout.specs.Form.{lengthFault, checkFault, offerCount, offersSection, layoutFault, formFault}
 use Rattle.encoding.specs.Encode.{encode}
-use Rattle.encoding.specs.inner.Fits.{OfferFits, Fits}
+use Rattle.encoding.specs.Widths.{OfferFits}
+use Rattle.encoding.specs.inner.Fits.{Fits}
 use Rattle.encoding.proofs.Sealed.{sealed-holds}
 use Rattle.encoding.proofs.Head.{length-head}
 use Rattle.encoding.proofs.HeadHolds.{read-count, head-holds}

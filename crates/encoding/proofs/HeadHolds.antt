@@ -19,7 +19,8 @@ use Rattle.layout.specs.Section.{blocksFor}
 use Rattle.layout.specs.Layout.{rpmb, countFits, headMarksHold, headHolds}
 use Rattle.layout.proofs.Places.{blank-all}
 use Rattle.encoding.specs.Numbers.{u16Bytes, u32Bytes}
-use Rattle.encoding.specs.inner.Fits.{ParametersFit, ValueFits}
+use Rattle.encoding.specs.Widths.{ValueFits}
+use Rattle.encoding.specs.inner.Fits.{ParametersFit}
 use Rattle.encoding.proofs.Cuts.{getD-past}
 use Rattle.encoding.proofs.Digits.{u16At-bytes, u32At-bytes, byte-zeros}
 use Rattle.encoding.proofs.Values.{written, written-fits, value-back, absent-back}

@@ -18,7 +18,7 @@ use Rattle.layout.specs.Section.{lastHolds, usedHolds}
 use Rattle.layout.specs.Form.{offersLast}
 use Rattle.encoding.specs.Numbers.{u16Bytes, u32Bytes, u64Bytes, zeros}
 use Rattle.encoding.specs.Encode.{placeMarks, placeBytes}
-use Rattle.encoding.specs.inner.Fits.{OfferFits}
+use Rattle.encoding.specs.Widths.{OfferFits}
 use Rattle.encoding.proofs.Digits.{u32At-bytes, u64At-bytes}
 use Rattle.encoding.proofs.Values.{written, mark, valueBytes-written, written-fits, mark-most, markOf-mark}
 use Rattle.encoding.proofs.Values.{value-back, absent-back}

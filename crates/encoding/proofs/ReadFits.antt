@@ -18,7 +18,8 @@ use Rattle.layout.specs.Form.{formFault}
 use Rattle.layout.specs.Read.{rowOffer, contentsOf}
 use Rattle.layout.proofs.Contained.{contents-parameters, contents-count, contents-offer}
 use Rattle.layout.proofs.Passing.{form-passed-count}
-use Rattle.encoding.specs.inner.Fits.{ValueFits, OfferFits, ParametersFit, Fits}
+use Rattle.encoding.specs.Widths.{ValueFits, OfferFits}
+use Rattle.encoding.specs.inner.Fits.{ParametersFit, Fits}
 use Rattle.encoding.proofs.Digits.{Bytes, u16At-most, u32At-most, u64At-most}
 use Rattle.encoding.proofs.Parts.{bytes-read, block-bytes, row-bytes}
 

@@ -23,7 +23,7 @@ use Rattle.layout.specs.inner.Section.{usedOnly}
 use Rattle.layout.proofs.Places.{blank-all, places-rest}
 use Rattle.encoding.specs.Numbers.{u16Bytes, zeros}
 use Rattle.encoding.specs.Encode.{placesBytes, rowsBytes}
-use Rattle.encoding.specs.inner.Fits.{OfferFits}
+use Rattle.encoding.specs.Widths.{OfferFits}
 use Rattle.encoding.proofs.Cuts.{getD-past}
 use Rattle.encoding.proofs.Digits.{u16At-bytes, byte-zeros}
 use Rattle.encoding.proofs.Sealed.{seal}

@@ -14,7 +14,7 @@ use Rattle.values.specs.Values.{marked, valueOf, absentIsZero}
 use Rattle.values.specs.declared.Value.{Value}
 use Rattle.values.specs.declared.Value.the-variants.{Given, Missing}
 use Rattle.encoding.specs.Numbers.{u16Bytes, u32Bytes, zeros, valueBytes, markOf}
-use Rattle.encoding.specs.inner.Fits.{ValueFits}
+use Rattle.encoding.specs.Widths.{ValueFits}
 
 -- the number that a value is written as, and its mark
 abbrev pub written : Value → ℕ

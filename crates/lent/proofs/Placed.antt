@@ -15,7 +15,7 @@ use Rattle.laws.proofs.Cases.{by-order, by-test}
 use Rattle.values.specs.Contents.{offerAt, noOffer}
 use Rattle.values.specs.declared.place.Offer.{Offer}
 use Rattle.encoding.specs.Numbers.{zeros}
-use Rattle.encoding.specs.inner.Fits.{ValueFits, OfferFits}
+use Rattle.encoding.specs.Widths.{ValueFits, OfferFits}
 use Rattle.encoding.proofs.Digits.{length-zeros}
 use Rattle.writer.specs.inner.Rows.{putRow, putRows}
 use Rattle.writer.proofs.Raw.{raw, rawBook, rows-put, length-raw}

@@ -25,7 +25,8 @@ use Rattle.limits.specs.Offers.{rowsFault}
 use Rattle.book.specs.Faults.{givenFault}
 use Rattle.encoding.specs.Numbers.{zeros}
 use Rattle.encoding.specs.Encode.{encode}
-use Rattle.encoding.specs.inner.Fits.{OfferFits, Fits}
+use Rattle.encoding.specs.Widths.{OfferFits}
+use Rattle.encoding.specs.inner.Fits.{Fits}
 use Rattle.encoding.proofs.Book.{encode-length}
 use Rattle.encoding.proofs.Form.{encode-count}
 use Rattle.encoding.proofs.Encoded.{read-encoded}

@@ -2,6 +2,7 @@
 --
 -- In order: when the call refuses, and what it leaves then; the bytes that it wrote; they are a sound book, and read back they say
 -- what was given; two contents never give the same bytes; a book that is read is written back.
+-- A caller's numbers have the widths of their types: `OffersFit`.
 -- Assumes nothing.
 use mathlib.Core.Path.{_≡_, refl, sym, ap, _∙_}
 use mathlib.Core.List.{List, _++_}
@@ -11,7 +12,7 @@ use lib.Dec.{leb}
 use lib.ListN.{length, take, drop}
 use lib.Seq.{take-append-seam}
 use borrow.Author.Tests.{le-leb, leb-true}
-use Rattle.values.specs.Contents.{Contents, offerAt}
+use Rattle.values.specs.Contents.{Contents}
 use Rattle.values.specs.Refusals.{unless, andThen, shortRoom, bufferBy}
 use Rattle.values.specs.declared.Verdict.{Verdict}
 use Rattle.values.specs.declared.Verdict.the-variants.{Passed, Refused}
@@ -22,7 +23,8 @@ use Rattle.layout.specs.Form.{formFault}
 use Rattle.limits.specs.Parameters.{rangeFault}
 use Rattle.book.specs.Faults.{givenFault, soundFault}
 use Rattle.encoding.specs.Encode.{encode}
-use Rattle.encoding.specs.inner.Fits.{OfferFits, Fits}
+use Rattle.encoding.specs.Widths.{OffersFit}
+use Rattle.encoding.specs.inner.Fits.{Fits}
 use Rattle.encoding.proofs.Form.{encode-form}
 use Rattle.encoding.proofs.Encoded.{read-encoded, encode-injective}
 use Rattle.encoding.proofs.ReadFits.{read-fits}
@@ -61,7 +63,7 @@ module _ (c : Contents) (room : ℕ) (passed : writeFault c room ≡ Passed) whe
   unfolding countFault
   few = leb-true (length (c .offers)) 600 (unless-passed (leb (length (c .offers)) 600) 19 0 count-passed)
 
-  passed-fits : ((row : ℕ) → row < length (c .offers) → OfferFits (offerAt (c .offers) row)) → Fits c
+  passed-fits : OffersFit (c .offers) → Fits c
   unfolding givenFault
   passed-fits fit =
       record { few = few; parameters = range-fits (c .parameters) (andThen-left (rangeFault (c .parameters)) _ given-passed); offers = fit }
@@ -102,19 +104,19 @@ module _ (c : Contents) (room : List ℕ) {r : OzpText} {room′ : List ℕ} (w 
         let e = write-passed write-passed-only in
         rw (e .0, e .1) (take-append-seam (encode c) (drop (length (encode c)) room))
 
-    module _ (fit : (row : ℕ) → row < length (c .offers) → OfferFits (offerAt (c .offers) row)) where
-      pub written-fits : Fits c
-      written-fits = passed-fits c (length room) write-passed-only fit
+    module _ (fit : OffersFit (c .offers)) where
+      pub wrote-fits : Fits c
+      wrote-fits = passed-fits c (length room) write-passed-only fit
 
       -- Reading what was written gives back the contents, missing values missing.
       pub written-read : contentsOf (take (r .bytes) room′) ≡ c
-      written-read = ap contentsOf written-bytes ∙ read-encoded c written-fits
+      written-read = ap contentsOf written-bytes ∙ read-encoded c wrote-fits
 
       -- What was written is a sound book.
       pub written-sound : soundFault (take (r .bytes) room′) ≡ Passed
       unfolding soundFault
       written-sound =
-          andThen-next (formFault (take (r .bytes) room′)) _ (ap formFault written-bytes ∙ encode-form c written-fits)
+          andThen-next (formFault (take (r .bytes) room′)) _ (ap formFault written-bytes ∙ encode-form c wrote-fits)
           ∙ ap givenFault written-read
           ∙ given-passed c (length room) write-passed-only
 
@@ -123,11 +125,10 @@ module _ (c : Contents) (room : List ℕ) {r : OzpText} {room′ : List ℕ} (w 
 -- Two calls that wrote the same bytes were given the same contents.
 pub written-once : (c d : Contents) (room other : List ℕ) {r s : OzpText} {room′ other′ : List ℕ}
     (w : Wrote c room r room′) (x : Wrote d other s other′) → r .kind ≡ 1 → s .kind ≡ 1
-    → ((row : ℕ) → row < length (c .offers) → OfferFits (offerAt (c .offers) row))
-    → ((row : ℕ) → row < length (d .offers) → OfferFits (offerAt (d .offers) row))
+    → OffersFit (c .offers) → OffersFit (d .offers)
     → take (r .bytes) room′ ≡ take (s .bytes) other′ → c ≡ d
 written-once c d room other w x e f fit gif same =
-    encode-injective c d (written-fits c room w e fit) (written-fits d other x f gif)
+    encode-injective c d (wrote-fits c room w e fit) (wrote-fits d other x f gif)
     (sym (written-bytes c room w e) ∙ same ∙ written-bytes d other x f)
 
 -- ---- what was read

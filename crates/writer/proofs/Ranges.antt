@@ -15,7 +15,8 @@ use Rattle.values.specs.declared.head.Parameters.{Parameters}
 use Rattle.values.proofs.Firsts.{unless-passed, andThen-left, andThen-right}
 use Rattle.limits.specs.Parameters.{within, givenWithin, byMargin, offsetMost, marginWithin, rangeFault}
 use Rattle.limits.proofs.Passing.{within-to}
-use Rattle.encoding.specs.inner.Fits.{ValueFits, ParametersFit}
+use Rattle.encoding.specs.Widths.{ValueFits}
+use Rattle.encoding.specs.inner.Fits.{ParametersFit}
 
 -- a value within a range that 32 bits hold
 value-fits : (least most : ℕ) (v : Value) → most < 4294967296 → givenWithin least most v ≡ true → ValueFits v

@@ -1,6 +1,7 @@
 //! The kinds of calls that a run has to meet.
 
-/// The kinds, as they are printed. A call is of one kind of the first line, of one of the second, and of any of the others.
+/// The kinds, as they are printed. A call is of one kind of the first line, of one of the second, and of any of the others;
+/// of a curve's prices each is counted.
 pub const KINDS: [&[&str]; 16] = [
     &["valid", "faulty", "damaged", "stray"],
     &["not laid out", "no offers", "1 to 15 offers", "16 to 599", "600"],

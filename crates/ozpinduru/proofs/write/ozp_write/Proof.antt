@@ -65,7 +65,7 @@ use Rattle.plain.specs.declared.structs.OzpParameters.{OzpParameters}
 use Rattle.plain.specs.declared.structs.OzpRow.{OzpRow}
 use Rattle.plain.specs.declared.structs.OzpText.{OzpText}
 use Rattle.plain.specs.declared.structs.OzpValue.{OzpValue}
-use Rattle.encoding.specs.inner.Fits.{OfferFits}
+use Rattle.encoding.specs.Widths.{OfferFits}
 use Rattle.writer.specs.inner.Rows.{putRow}
 use Rattle.lent.specs.Wrote.{Wrote}
 use Rattle.lent.specs.inner.Finished.{Finished}
