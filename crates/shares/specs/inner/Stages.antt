@@ -1,4 +1,4 @@
--- What the steps of sharing out ask of the rows and of the level at which the total stops.
+-- What the stages of sharing out ask of the rows and of the level at which the total stops.
 -- Assumes nothing.
 use Prim.Native.Nat.{ℕ, _+_, _≤_, _<_}
 use mathlib.Core.Path.{_≡_}
@@ -25,13 +25,13 @@ pub record Stopped (o : Offers) (l : Level) : Type 0 where
   pub positive : (i : ℕ) → i < o .count → 0 < o .quantity i
 
 -- n rows that hold their parts, and the spare tenths of their level
-pub record SparesDue (prices quantities stamps resources : List ℕ) (n : ℕ) (l : Level) (spare : ℕ) (out : List ℕ) :
+pub record SparesDue (prices quantities stamps resources steps : List ℕ) (n : ℕ) (l : Level) (spare : ℕ) (out : List ℕ) :
     Type 0 where
   pub divides : DividesRows l prices quantities n
-  pub ordered : Ordered quantities stamps resources n
-  pub stopped : Stopped (rowsOf prices quantities stamps resources n) l
+  pub ordered : Ordered quantities stamps resources steps n
+  pub stopped : Stopped (rowsOf prices quantities stamps resources steps n) l
   pub holds : HoldsParts l prices quantities n out
-  pub tenths : spare ≡ spareTenths (rowsOf prices quantities stamps resources n) (l .total) (l .price)
+  pub tenths : spare ≡ spareTenths (rowsOf prices quantities stamps resources steps n) (l .total) (l .price)
 
 -- to each of n entries a number can be added within 32 bits
 pub record Adds (tenths : List ℕ) (n : ℕ) (out : List ℕ) : Type 0 where
