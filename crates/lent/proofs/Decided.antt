@@ -8,7 +8,7 @@ use contract.Lifetimes.{Lfts}
 use denote.Ref.{RefT, now}
 use Rattle.values.specs.Contents.{Contents}
 use Rattle.values.specs.declared.head.Parameters.{Parameters}
-use Rattle.writer.specs.inner.Rows.{putRow}
+use Rattle.places.specs.inner.Rows.{putRow}
 use Rattle.plain.specs.Given.{parametersIn, offerIn}
 use Rattle.plain.specs.declared.structs.OzpParameters.{OzpParameters}
 use Rattle.plain.specs.declared.structs.OzpRow.{OzpRow}

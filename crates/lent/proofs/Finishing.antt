@@ -14,7 +14,8 @@ use Rattle.values.specs.declared.Verdict.the-variants.{Passed, Refused}
 use Rattle.values.specs.declared.head.Parameters.{Parameters}
 use Rattle.values.proofs.Firsts.{unless-passed, andThen-left}
 use Rattle.limits.specs.Parameters.{rangeFault}
-use Rattle.writer.specs.inner.Made.{bytesFor, bookMade, beforeMade, madeFault, Made}
+use Rattle.making.specs.inner.Made.{bookMade}
+use Rattle.writer.specs.inner.Made.{bytesFor, beforeMade, madeFault, Made}
 use Rattle.plain.specs.declared.structs.OzpText.{OzpText}
 use Rattle.words.specs.Texts.{textGiven, textRefused, textOf, textBy, Told}
 use Rattle.words.proofs.Telling.{given-some}

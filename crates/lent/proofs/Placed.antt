@@ -17,7 +17,7 @@ use Rattle.values.specs.declared.place.Offer.{Offer}
 use Rattle.encoding.specs.Numbers.{zeros}
 use Rattle.encoding.specs.Widths.{ValueFits, OfferFits}
 use Rattle.encoding.proofs.Digits.{length-zeros}
-use Rattle.writer.specs.inner.Rows.{putRow, putRows}
+use Rattle.places.specs.inner.Rows.{putRow, putRows}
 use Rattle.writer.proofs.Raw.{raw, rawBook, rows-put, length-raw}
 use Rattle.plain.specs.Given.{valueIn, offerIn, contentsIn, parametersIn}
 use Rattle.plain.specs.declared.structs.OzpParameters.{OzpParameters}

@@ -31,8 +31,9 @@ use Rattle.encoding.proofs.Book.{encode-length}
 use Rattle.encoding.proofs.Form.{encode-count}
 use Rattle.encoding.proofs.Encoded.{read-encoded}
 use Rattle.writer.specs.Writing.{countFault, writeFault}
-use Rattle.writer.specs.inner.Rows.{putRows}
-use Rattle.writer.specs.inner.Made.{bytesFor, bookMade, beforeMade, madeFault}
+use Rattle.places.specs.inner.Rows.{putRows}
+use Rattle.making.specs.inner.Made.{bookMade}
+use Rattle.writer.specs.inner.Made.{bytesFor, beforeMade, madeFault}
 use Rattle.writer.proofs.Raw.{rows-put}
 use Rattle.writer.proofs.Books.{book-encoded}
 use Rattle.writer.proofs.Ranges.{range-fits}

@@ -14,7 +14,7 @@ ghost use mathlib.Core.Path.{_≡_};
 ghost use Prim.Native.Nat.{_<_, min};
 ghost use lib.ListN.{length};
 ghost use Rattle.plain.specs.Given.{parametersIn, offerIn};
-ghost use Rattle.writer.specs.inner.Rows.{putRow};
+ghost use Rattle.places.specs.inner.Rows.{putRow};
 ghost use Rattle.lent.specs.inner.Finished.{Finished};
 
 // How many of so many rows are put into their places: a book has 600.
@@ -29,7 +29,7 @@ pub fn put_row(book: &mut [u8], i: usize, row: OzpRow)
     requires { ⌜ (length (now book) ≡ 20992) × (i < 600) ⌝ }
     ensures { λ _. ⌜ now (book .exit) ≡ putRow (now (book .entry)) i (offerIn row) ⌝ }
 {
-    writer::put_row(book, i, offer_in(row));
+    places::place::put_row(book, i, offer_in(row));
 }
 
 // Makes the book of these parameters and so many rows, and copies it into the room, where nothing refuses it.

@@ -1,6 +1,5 @@
-pub mod Puts
-pub mod Fields
 pub mod Raw
+pub mod Blocks
 pub mod Books
 pub mod Making
 pub mod Ranges

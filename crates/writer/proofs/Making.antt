@@ -13,7 +13,8 @@ use Rattle.values.specs.declared.head.Parameters.{Parameters}
 use Rattle.layout.specs.Read.{rowOffers}
 use Rattle.limits.specs.Parameters.{rangeFault}
 use Rattle.limits.specs.Offers.{rowsFault}
-use Rattle.writer.specs.inner.Made.{bytesFor, bookMade, beforeMade, madeFault, Made}
+use Rattle.making.specs.inner.Made.{bookMade}
+use Rattle.writer.specs.inner.Made.{bytesFor, beforeMade, madeFault, Made}
 
 module _ (p : Parameters) (rows : ℕ) (b : List ℕ) where
   -- there are more rows than a book has

@@ -18,9 +18,9 @@ use Rattle.encoding.specs.Encode.{placeBytes, placesBytes}
 use Rattle.encoding.proofs.Digits.{length-zeros}
 use Rattle.encoding.proofs.Place.{length-place}
 use Rattle.encoding.proofs.Rows.{length-places}
-use Rattle.writer.specs.inner.Put.{put}
-use Rattle.writer.specs.inner.Rows.{putRow, putRows}
-use Rattle.writer.proofs.Puts.{put-after, put-front}
+use Rattle.places.specs.inner.Put.{put}
+use Rattle.places.specs.inner.Rows.{putRow, putRows}
+use Rattle.places.proofs.Puts.{put-after, put-front}
 
 pub zeros-add : (m n : ℕ) → zeros (m + n) ≡ zeros m ++ zeros n
 unfolding zeros

@@ -1,15 +1,10 @@
 // The writer of books. The rows are put into their places first, in bytes that are all zero; then the book is made around them
 // and read again by the tests of a sound book, so that no test has a second form.
-mod blocks;
-mod bytes;
-mod place;
-
 use block::SIZE;
-use blocks::put_book;
 use book::rows::rows_fault;
 use layout::section::blocks_for;
 use limits::parameters::parameter_fault;
-pub use place::put_row;
+use making::put_book;
 use values::Verdict;
 use values::head::Parameters;
 ghost use mathlib.Core.Path.{_≡_};

@@ -1,4 +1,4 @@
-use Rattle.writer.specs.inner.Rows.{putRow}
+use Rattle.places.specs.inner.Rows.{putRow}
 use mathlib.Core.Path.{ap, _∙_}
 use native.Mathlib.Omega.{arith}
 use borrow.Author.Needs.{needs}
@@ -7,7 +7,7 @@ use Rattle.lent.proofs.put_row.Tie as tie
 use Rattle.lent.proofs.put_row.Reads as reads
 use Rattle.lent.proofs.put_row.Lts as lts
 use Rattle.plain.proofs.given.offer_in.Reads as offer-in-reads
-use Rattle.writer.proofs.put_row.Reads as put-row-reads
+use Rattle.places.proofs.place.put_row.Reads as put-row-reads
 
 -- src/lib.rt:31:30
 offer-in-requires : tie.Need-offer-in-requires

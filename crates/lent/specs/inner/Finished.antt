@@ -8,7 +8,8 @@ use lib.ListN.{length, take, drop}
 use Rattle.values.specs.Refusals.{unless, andThen, shortRoom, bufferBy}
 use Rattle.values.specs.declared.Verdict.{Verdict}
 use Rattle.values.specs.declared.head.Parameters.{Parameters}
-use Rattle.writer.specs.inner.Made.{bytesFor, bookMade, beforeMade, madeFault}
+use Rattle.making.specs.inner.Made.{bookMade}
+use Rattle.writer.specs.inner.Made.{bytesFor, beforeMade, madeFault}
 use Rattle.plain.specs.declared.structs.OzpText.{OzpText}
 use Rattle.words.specs.Texts.{textGiven, textBy}
 

@@ -11,7 +11,7 @@ use Rattle.writer.proofs.make_book.Reads as reads
 use Rattle.writer.proofs.make_book.Lts as lts
 use Rattle.book.proofs.rows.rows_fault.Reads as rows-fault-reads
 use Rattle.limits.proofs.parameters.parameter_fault.Reads as parameter-fault-reads
-use Rattle.writer.proofs.blocks.put_book.Reads as put-book-reads
+use Rattle.making.proofs.put_book.Reads as put-book-reads
 use Rattle.writer.proofs.bytes_for.Reads as bytes-for-reads
 
 -- src/lib.rt:35:9

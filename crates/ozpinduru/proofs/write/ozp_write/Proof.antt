@@ -66,7 +66,7 @@ use Rattle.plain.specs.declared.structs.OzpRow.{OzpRow}
 use Rattle.plain.specs.declared.structs.OzpText.{OzpText}
 use Rattle.plain.specs.declared.structs.OzpValue.{OzpValue}
 use Rattle.encoding.specs.Widths.{OfferFits}
-use Rattle.writer.specs.inner.Rows.{putRow}
+use Rattle.places.specs.inner.Rows.{putRow}
 use Rattle.lent.specs.Wrote.{Wrote}
 use Rattle.lent.specs.inner.Finished.{Finished}
 use Rattle.lent.proofs.Placed.{placed, placed-none, placed-next, length-placed, placed-wrote, Wide, row-fits}
