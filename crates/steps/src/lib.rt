@@ -21,7 +21,11 @@ fn not_cheaper(before: Value, price: Value) -> bool
 fn is_flexible(block: Value) -> bool
     ensures { λ r. ⌜ r ≡ flexible block ⌝ }
 {
-    if let Value::Missing = block { true } else { false }
+    if let Value::Missing = block {
+        true
+    } else {
+        false
+    }
 }
 
 // Whether an offer follows the one before it. Steps are compared in 64 bits, where one more than a step fits.
