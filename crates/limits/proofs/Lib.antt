@@ -7,3 +7,4 @@ pub mod Passing
 pub mod PassingRows
 pub mod Margins
 pub mod Decided
+pub mod Editions
