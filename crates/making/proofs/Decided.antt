@@ -10,8 +10,8 @@ use Rattle.values.specs.declared.head.Parameters.{Parameters}
 use Rattle.making.specs.inner.Made.{bookMade}
 use Rattle.making.proofs.put_book.Reads as put-book
 
-pub put-book-decided : (κs : Lfts 1) (b c b′ c′ : RefT (List ℕ)) (p : Parameters) (rows : ℕ) → now b ≡ now c
-    → put-book.Post κs (b, (p, (rows, tt))) tt (b′, (p, (rows, tt)))
-    → put-book.Post κs (c, (p, (rows, tt))) tt (c′, (p, (rows, tt)))
+pub put-book-decided : (κs : Lfts 1) (b c b′ c′ : RefT (List ℕ)) (edition : ℕ) (p : Parameters) (rows : ℕ) → now b ≡ now c
+    → put-book.Post κs (b, (edition, (p, (rows, tt)))) tt (b′, (edition, (p, (rows, tt))))
+    → put-book.Post κs (c, (edition, (p, (rows, tt)))) tt (c′, (edition, (p, (rows, tt))))
     → now b′ ≡ now c′
-put-book-decided κs b c b′ c′ p rows same = same-answer (bookMade p rows) same
+put-book-decided κs b c b′ c′ edition p rows same = same-answer (bookMade edition p rows) same

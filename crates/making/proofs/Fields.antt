@@ -59,29 +59,29 @@ opened : (a b c d e f g h i j : List ℕ)
     → a ++ (b ++ (c ++ (d ++ (e ++ (f ++ (g ++ (h ++ (i ++ j)))))))) ≡ (((((a ++ b) ++ c) ++ (d ++ (e ++ (f ++ g)))) ++ h) ++ i) ++ j
 opened a b c d e f g h i j = simp append-assoc
 
-pub put-opening : (b : List ℕ) (p : Parameters) (rows marks : ℕ) {c₁ c₂ c₃ c₄ c₅ c₆ c₇ : List ℕ} → 512 ≤ length b
+pub put-opening : (b : List ℕ) (edition : ℕ) (p : Parameters) (rows marks : ℕ) {c₁ c₂ c₃ c₄ c₅ c₆ c₇ : List ℕ} → 512 ≤ length b
     → marks ≡ headMarks p
     → c₁ ≡ put b 0 rpmb
-    → c₂ ≡ put c₁ 4 (u16Bytes 1)
+    → c₂ ≡ put c₁ 4 (u16Bytes edition)
     → c₃ ≡ put c₂ 6 (u16Bytes (p .year))
     → c₄ ≡ put c₃ 8 (fourValues p)
     → c₅ ≡ put c₄ 24 (u16Bytes rows)
     → c₆ ≡ put c₅ 26 (u16Bytes marks)
     → c₇ ≡ put c₆ 28 (valueBytes (p .margin))
-    → c₇ ≡ put b 0 (opening p rows)
+    → c₇ ≡ put b 0 (opening edition p rows)
 unfolding opening fourValues
-put-opening b p rows marks h e e₁ e₂ e₃ e₄ e₅ e₆ e₇ =
+put-opening b edition p rows marks h e e₁ e₂ e₃ e₄ e₅ e₆ e₇ =
     let r₁ : Run b 0 _ 4 _ = record { made = e₁; long = refl } in
-    let r₂ : Run b 0 _ 6 _ = run-on b 0 (u16Bytes 1) 2 r₁ (omega arith) (length-u16 1) e₂ in
+    let r₂ : Run b 0 _ 6 _ = run-on b 0 (u16Bytes edition) 2 r₁ (omega arith) (length-u16 edition) e₂ in
     let r₃ : Run b 0 _ 8 _ = run-on b 0 (u16Bytes (p .year)) 2 r₂ (omega arith) (length-u16 (p .year)) e₃ in
     let r₄ : Run b 0 _ 24 _ = run-on b 0 (fourValues p) 16 r₃ (omega arith) (length-four p) e₄ in
     let r₅ : Run b 0 _ 26 _ = run-on b 0 (u16Bytes rows) 2 r₄ (omega arith) (length-u16 rows) e₅ in
     let r₆ : Run b 0 _ 28 _ = run-on b 0 (u16Bytes marks) 2 r₅ (omega arith) (length-u16 marks) e₆ in
     run-on b 0 (valueBytes (p .margin)) 4 r₆ (omega arith) (length-value (p .margin)) e₇ .made
     ∙ ap (put b 0)
-    (sym (opened rpmb (u16Bytes 1) (u16Bytes (p .year)) (valueBytes (p .cost)) (valueBytes (p .offset)) (valueBytes (p .outage))
+    (sym (opened rpmb (u16Bytes edition) (u16Bytes (p .year)) (valueBytes (p .cost)) (valueBytes (p .offset)) (valueBytes (p .outage))
     (valueBytes (p .requirement)) (u16Bytes rows) (u16Bytes marks) (valueBytes (p .margin)))
-    ∙ ap (λ (m : ℕ). rpmb ++ (u16Bytes 1 ++ (u16Bytes (p .year) ++ (valueBytes (p .cost) ++ (valueBytes (p .offset)
+    ∙ ap (λ (m : ℕ). rpmb ++ (u16Bytes edition ++ (u16Bytes (p .year) ++ (valueBytes (p .cost) ++ (valueBytes (p .offset)
     ++ (valueBytes (p .outage) ++ (valueBytes (p .requirement) ++ (u16Bytes rows ++ (u16Bytes m ++ valueBytes (p .margin)))))))))) e)
 
 pub put-block : (b : List ℕ) (k here : ℕ) {c₁ c₂ c₃ c₄ : List ℕ} → k * 512 + 512 ≤ length b

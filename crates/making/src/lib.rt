@@ -60,13 +60,13 @@ fn put_values(b: &mut [u8], p: Parameters)
 }
 
 // What block 0 says, in its first 32 bytes.
-fn put_opening(b: &mut [u8], p: Parameters, rows: u32)
+fn put_opening(b: &mut [u8], edition: u32, p: Parameters, rows: u32)
     requires { ⌜ 512 ≤ length (now b) ⌝ }
-    ensures { λ _. ⌜ now (b .exit) ≡ put (now (b .entry)) 0 (opening p rows) ⌝ }
+    ensures { λ _. ⌜ now (b .exit) ≡ put (now (b .entry)) 0 (opening edition p rows) ⌝ }
 {
     let margin = p.margin;
     put_letters(b, 0, &RPMB);
-    put_u16(b, 4, 1);
+    put_u16(b, 4, edition);
     put_u16(b, 6, p.year);
     put_values(b, p);
     put_u16(b, 24, rows);
@@ -97,11 +97,11 @@ fn put_blocks(b: &mut [u8], rows: usize)
 }
 
 // The book whose rows stand in their places.
-pub fn put_book(b: &mut [u8], p: Parameters, rows: usize)
+pub fn put_book(b: &mut [u8], edition: u32, p: Parameters, rows: usize)
     requires { ⌜ (length (now b) ≡ 20992) × (rows ≤ 600) ⌝ }
-    ensures { λ _. ⌜ now (b .exit) ≡ bookMade p rows (now (b .entry)) ⌝ }
+    ensures { λ _. ⌜ now (b .exit) ≡ bookMade edition p rows (now (b .entry)) ⌝ }
 {
-    put_opening(b, p, rows as u32);
+    put_opening(b, edition, p, rows as u32);
     seal(b, 0);
     put_blocks(b, rows);
 }

@@ -39,11 +39,11 @@ module _ (κs : Lfts 1) (b c b′ c′ : RefT (List ℕ)) (same : now b ≡ now 
   put-value-decided at v = same-answer (λ l. put l at (valueBytes v)) same
 
   -- a row in its place, by the contract of `put_row`
-  pub put-row-decided : (i : ℕ) (o : Offer)
-      → put-row.Post κs (b, (i, (o, tt))) tt (b′, (i, (o, tt)))
-      → put-row.Post κs (c, (i, (o, tt))) tt (c′, (i, (o, tt)))
+  pub put-row-decided : (edition i : ℕ) (o : Offer)
+      → put-row.Post κs (b, (edition, (i, (o, tt)))) tt (b′, (edition, (i, (o, tt))))
+      → put-row.Post κs (c, (edition, (i, (o, tt)))) tt (c′, (edition, (i, (o, tt))))
       → now b′ ≡ now c′
-  put-row-decided i o = same-answer (λ l. putRow l i o) same
+  put-row-decided edition i o = same-answer (λ l. putRow l edition i o) same
 
 -- the letters of a block, by the contract of `put_letters`
 pub put-letters-decided : (κs : Lfts 2) (b c b′ c′ letters others : RefT (List ℕ)) (at : ℕ) → now b ≡ now c → now letters ≡ now others

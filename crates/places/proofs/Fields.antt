@@ -1,20 +1,27 @@
 -- What a run of puts makes, field by field.
 --
--- In order: a run; numbers by their halves, and marks; a place.
+-- In order: a run; numbers by their halves, and marks; a place; a row.
 -- Assumes nothing.
 use mathlib.Core.Path.{_≡_, refl, sym, ap, ap₂, _∙_}
+use mathlib.Core.Bool.{Bool, true, false, cond}
 use mathlib.Core.List.{List, _∷_, _++_, append-assoc}
 use Prim.Native.Nat.{ℕ, _+_, _*_, _/_, _%_, _^_, _≤_, _<_}
 use native.Mathlib.Omega.{arith}
+use lib.Dec.{eqb, leb}
 use lib.ListN.{length, length-append}
+use borrow.Author.Tests.{leb-true}
+use Rattle.laws.proofs.Cases.{cond-true, cond-false, and-right}
 use Rattle.values.specs.declared.Value.{Value}
 use Rattle.values.specs.declared.Value.the-variants.{Given, Missing}
 use Rattle.values.specs.declared.place.Offer.{Offer}
+use Rattle.limits.specs.Parameters.{within}
+use Rattle.limits.specs.Offers.{stepWithin}
 use Rattle.encoding.specs.Numbers.{u16Bytes, u32Bytes, u64Bytes, valueBytes, zeros, markOf}
-use Rattle.encoding.specs.Encode.{placeMarks, placeBytes}
+use Rattle.encoding.specs.Encode.{placeMarks, stepByte, placeBytes}
 use Rattle.encoding.proofs.Halves.{u64Bytes-halves}
 use Rattle.encoding.proofs.Values.{written, valueBytes-written}
 use Rattle.places.specs.inner.Put.{put, weighed}
+use Rattle.places.specs.inner.Rows.{putRow}
 use Rattle.places.proofs.Puts.{put-next}
 
 -- ---- a run
@@ -69,14 +76,15 @@ weighed-bit bit Missing = refl
 pub place-marks : (o : Offer) {x y : ℕ} → x ≡ weighed 1 (o .price) → y ≡ weighed 2 (o .block) → x + y ≡ placeMarks o
 place-marks o e f = ap₂ _+_ (e ∙ weighed-bit 0 (o .price)) (f ∙ weighed-bit 1 (o .block))
 
--- a byte as a number of 32 bits
-byte-u32 : (n : ℕ) → n < 256 → u32Bytes n ≡ n ∷ zeros 3
+-- two bytes as a number of 32 bits
+bytes-u32 : (m n : ℕ) → m < 256 → n < 256 → u32Bytes (m + n * 256) ≡ m ∷ n ∷ zeros 2
 unfolding u32Bytes u16Bytes zeros
-byte-u32 n l =
-    let a : n % 256 ≡ n = omega arith in
-    let b : n / 256 % 256 ≡ 0 = omega arith in
-    let c : n / 65536 % 256 ≡ 0 = omega arith in
-    let d : n / 65536 / 256 % 256 ≡ 0 = omega arith in
+bytes-u32 m n l k =
+    let a : (m + n * 256) % 256 ≡ m = omega arith in
+    let up : (m + n * 256) / 256 ≡ n = omega arith in
+    let b : (m + n * 256) / 256 % 256 ≡ n = rw up (omega arith) in
+    let c : (m + n * 256) / 65536 % 256 ≡ 0 = omega arith in
+    let d : (m + n * 256) / 65536 / 256 % 256 ≡ 0 = omega arith in
     rw (a, b, c, d)
 
 -- ---- a place
@@ -85,28 +93,49 @@ seven : (a b c d e f g : List ℕ)
     → a ++ (b ++ (c ++ (d ++ (e ++ (f ++ g))))) ≡ (((((a ++ b) ++ c) ++ d) ++ e) ++ f) ++ g
 seven a b c d e f g = simp append-assoc
 
-pub put-place : (b : List ℕ) (at : ℕ) (o : Offer) (marks : ℕ) {c₁ c₂ c₃ c₄ c₅ c₆ c₇ : List ℕ} → at + 32 ≤ length b
-    → marks ≡ placeMarks o → marks ≤ 3
+pub put-place : (b : List ℕ) (at edition : ℕ) (o : Offer) (marks step : ℕ) {c₁ c₂ c₃ c₄ c₅ c₆ c₇ : List ℕ} → at + 32 ≤ length b
+    → marks ≡ placeMarks o → marks ≤ 3 → step ≡ stepByte edition (o .step) → step < 256
     → c₁ ≡ put b at (u32Bytes (o .resource))
     → c₂ ≡ put c₁ (at + 4) (u32Bytes (o .seller))
     → c₃ ≡ put c₂ (at + 8) (valueBytes (o .price))
     → c₄ ≡ put c₃ (at + 12) (u32Bytes (o .quantity))
     → c₅ ≡ put c₄ (at + 16) (valueBytes (o .block))
     → c₆ ≡ put c₅ (at + 20) (u64Bytes (o .stamp))
-    → c₇ ≡ put c₆ (at + 28) (u32Bytes marks)
-    → c₇ ≡ put b at (placeBytes o)
+    → c₇ ≡ put c₆ (at + 28) (u32Bytes (marks + step * 256))
+    → c₇ ≡ put b at (placeBytes edition o)
 unfolding placeBytes
-put-place b at o marks h e most e₁ e₂ e₃ e₄ e₅ e₆ e₇ =
+put-place b at edition o marks step h e most f small e₁ e₂ e₃ e₄ e₅ e₆ e₇ =
     let r₁ : Run b at _ 4 _ = record { made = e₁; long = length-u32 (o .resource) } in
     let r₂ : Run b at _ 8 _ = run-on b at (u32Bytes (o .seller)) 4 r₁ (omega arith) (length-u32 (o .seller)) e₂ in
     let r₃ : Run b at _ 12 _ = run-on b at (valueBytes (o .price)) 4 r₂ (omega arith) (length-value (o .price)) e₃ in
     let r₄ : Run b at _ 16 _ = run-on b at (u32Bytes (o .quantity)) 4 r₃ (omega arith) (length-u32 (o .quantity)) e₄ in
     let r₅ : Run b at _ 20 _ = run-on b at (valueBytes (o .block)) 4 r₄ (omega arith) (length-value (o .block)) e₅ in
     let r₆ : Run b at _ 28 _ = run-on b at (u64Bytes (o .stamp)) 8 r₅ (omega arith) (length-u64 (o .stamp)) e₆ in
-    let last : u32Bytes marks ≡ placeMarks o ∷ zeros 3 = byte-u32 marks (omega arith) ∙ ap (λ (m : ℕ). m ∷ zeros 3) e in
-    run-on b at (u32Bytes marks) 4 r₆ (omega arith) (length-u32 marks) e₇ .made
+    let last : u32Bytes (marks + step * 256) ≡ placeMarks o ∷ stepByte edition (o .step) ∷ zeros 2 =
+    bytes-u32 marks step (omega arith) small ∙ ap₂ (λ (m n : ℕ). m ∷ n ∷ zeros 2) e f in
+    run-on b at (u32Bytes (marks + step * 256)) 4 r₆ (omega arith) (length-u32 (marks + step * 256)) e₇ .made
     ∙ ap (put b at)
     (sym (seven (u32Bytes (o .resource)) (u32Bytes (o .seller)) (valueBytes (o .price)) (u32Bytes (o .quantity)) (valueBytes (o .block))
-    (u64Bytes (o .stamp)) (u32Bytes marks))
+    (u64Bytes (o .stamp)) (u32Bytes (marks + step * 256)))
     ∙ ap (λ (s : List ℕ). u32Bytes (o .resource) ++ (u32Bytes (o .seller) ++ (valueBytes (o .price) ++ (u32Bytes (o .quantity)
     ++ (valueBytes (o .block) ++ (u64Bytes (o .stamp) ++ s)))))) last)
+
+-- ---- a row
+
+-- a step that the edition has is a byte
+pub step-small : (edition step : ℕ) → stepWithin edition step ≡ true → stepByte edition step < 256
+step-small edition step = own (eqb edition 1)
+  where
+    own : (t : Bool) → cond t (eqb step 1) (within 1 10 step) ≡ true → cond t 0 step < 256
+    own true e = omega arith
+    own false e = omega (arith, leb-true step 10 (and-right (leb 1 step) _ e))
+
+module _ (b : List ℕ) (edition i : ℕ) (o : Offer) where
+  pub row-left : stepWithin edition (o .step) ≡ false → b ≡ putRow b edition i o
+  unfolding putRow
+  row-left e = sym (cond-false _ _ b e)
+
+  pub row-put : {c : List ℕ} → stepWithin edition (o .step) ≡ true
+      → c ≡ put b ((1 + i / 15) * 512 + (28 + i % 15 * 32)) (placeBytes edition o) → c ≡ putRow b edition i o
+  unfolding putRow
+  row-put e f = f ∙ sym (cond-true _ _ b e)

@@ -25,10 +25,10 @@ unfoldable pub fourValues : Parameters → List ℕ
 fourValues p = valueBytes (p .cost) ++ (valueBytes (p .offset) ++ (valueBytes (p .outage) ++ valueBytes (p .requirement)))
 
 -- the first 32 bytes of block 0
-unfoldable pub opening : Parameters → ℕ → List ℕ
-opening p rows =
+unfoldable pub opening : ℕ → Parameters → ℕ → List ℕ
+opening edition p rows =
     rpmb
-    ++ (u16Bytes 1
+    ++ (u16Bytes edition
     ++ (u16Bytes (p .year)
     ++ (valueBytes (p .cost)
     ++ (valueBytes (p .offset)
@@ -48,5 +48,5 @@ blocksMade b rows zero = b
 blocksMade b rows (suc j) = blockMade (blocksMade b rows j) (j + 1) (rowsHere rows j)
 
 -- the book, and behind it what stood there
-unfoldable pub bookMade : Parameters → ℕ → List ℕ → List ℕ
-bookMade p rows b = blocksMade (sealedAt (put b 0 (opening p rows)) 0) rows (blocksFor rows)
+unfoldable pub bookMade : ℕ → Parameters → ℕ → List ℕ → List ℕ
+bookMade edition p rows b = blocksMade (sealedAt (put b 0 (opening edition p rows)) 0) rows (blocksFor rows)
