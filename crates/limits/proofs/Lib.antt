@@ -7,4 +7,3 @@ pub mod Passing
 pub mod PassingRows
 pub mod Margins
 pub mod Decided
-pub mod Editions
