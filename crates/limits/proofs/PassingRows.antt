@@ -1,81 +1,26 @@
--- What rows that passed the tests are: offers within the outline's ranges, priced where prices are needed, each the first step of
--- its resource or behind the step before it, and no two with one resource number and one step.
+-- What rows that passed the tests are: offers of a sound book, priced where prices are needed, each the first step of its resource
+-- or behind the step before it, and no two with one resource number and one step.
 --
--- In order: an offer within its ranges, one that has a price; what a row without fault passed; the rows.
+-- In order: what a row without fault passed, by 6 and 7, by 8, by 10; rows that have one resource number and one step;
+-- rows that are priced, and rows of edition 1.
 -- Assumes nothing.
 use mathlib.Core.Path.{_≡_, refl, sym, _∙_}
-use mathlib.Core.Bool.{Bool, true, false, cond}
-use Prim.Native.Nat.{ℕ, zero, suc, _-_, _≤_, _<_}
+use mathlib.Core.Bool.{Bool, true}
+use Prim.Native.Nat.{ℕ, zero, suc, _-_, _<_}
 use native.Mathlib.Omega.{arith}
-use lib.Dec.{leb, eqb}
-use borrow.Author.Tests.{leb-true, eqb-true, eq-eqb}
-use Rattle.laws.proofs.Cases.{by-order, by-equality, and-left, and-right}
-use Rattle.values.specs.Values.{held}
+use borrow.Author.Tests.{eq-eqb, eqb-true}
+use Rattle.laws.proofs.Cases.{by-order, by-equality}
 use Rattle.values.specs.Refusals.{andThen}
-use Rattle.values.specs.declared.Value.{Value}
-use Rattle.values.specs.declared.Value.the-variants.{Given, Missing}
 use Rattle.values.specs.declared.Verdict.the-variants.{Passed}
 use Rattle.values.specs.declared.place.Offer.{Offer}
 use Rattle.values.proofs.Firsts.{unless-passed, andThen-left, andThen-right, first-at}
-use Rattle.limits.specs.Parameters.{within, givenWithin}
 use Rattle.repeats.specs.Repeats.{fresh, noRepeat}
-use Rattle.steps.specs.Steps.{stepHolds}
-use Rattle.limits.specs.Offers.{priceFault, stepWithin, offerInRange, offerFault, repeatFault, stepFault, rowsFault}
-use Rattle.limits.specs.Ranges.{SoundOffer, PricedOffer}
 use Rattle.repeats.proofs.Fresh.{fresh-differs, repeat-tested}
+use Rattle.steps.specs.Steps.{stepHolds}
 use Rattle.steps.proofs.Following.{Follows, step-past-zero, step-past-follows}
-use Rattle.limits.proofs.Passing.{within-from, within-to, given-within}
-
--- ---- an offer
-
--- a step within the range of an edition, which is told by t
-step-range : (t : Bool) (step : ℕ) → cond t (eqb step 1) (within 1 10 step) ≡ true → (1 ≤ step) × (step ≤ 10)
-step-range true step e = let one = eqb-true step 1 e in (omega arith, omega arith)
-step-range false step e = (within-from 1 10 step e, within-to 1 10 step e)
-
--- An offer within its ranges has its values within them, those that it gives.
-pub offer-sound : (edition : ℕ) (o : Offer) → offerInRange edition o ≡ true → SoundOffer o
-unfolding offerInRange
-offer-sound edition o e =
-    let from1 = and-right (leb 1 (o .resource)) _ e in
-    let from2 = and-right (leb 1 (o .seller)) _ from1 in
-    let from3 = and-right (givenWithin 0 1000000 (o .price)) _ from2 in
-    let from4 = and-right (within 1 200000 (o .quantity)) _ from3 in
-    let price = and-left (givenWithin 0 1000000 (o .price)) _ from2 in
-    let quantity = and-left (within 1 200000 (o .quantity)) _ from3 in
-    let block = and-left (givenWithin 1 (o .quantity) (o .block)) _ from4 in
-    let step = step-range (eqb edition 1) (o .step) (and-right (givenWithin 1 (o .quantity) (o .block)) _ from4) in
-    record {
-      resource-from = leb-true 1 (o .resource) (and-left (leb 1 (o .resource)) _ e);
-      seller-from = leb-true 1 (o .seller) (and-left (leb 1 (o .seller)) _ from1);
-      price-to = λ number g. within-to 0 1000000 number (given-within 0 1000000 (o .price) number price g);
-      quantity-from = within-from 1 200000 (o .quantity) quantity;
-      quantity-to = within-to 1 200000 (o .quantity) quantity;
-      block-from = λ number g. within-from 1 (o .quantity) number (given-within 1 (o .quantity) (o .block) number block g);
-      block-to = λ number g. within-to 1 (o .quantity) number (given-within 1 (o .quantity) (o .block) number block g);
-      step-from = step .0;
-      step-to = step .1;
-    }
-
-offer-in-range : (pricesNeeded : Bool) (edition : ℕ) (o : Offer) (row : ℕ)
-    → offerFault pricesNeeded edition o row ≡ Passed → offerInRange edition o ≡ true
-unfolding offerFault
-offer-in-range pricesNeeded edition o row e =
-    unless-passed (offerInRange edition o) 7 row (andThen-right (cond pricesNeeded (priceFault (o .price) row) Passed) _ e)
-
-price-given : (price : Value) (row : ℕ) → priceFault price row ≡ Passed → price ≡ Given (held price)
-price-given (Given number) row e = refl
-price-given Missing row e = cc
-
--- An offer that clearing accepts is one of a sound book, and has a price.
-pub offer-priced : (edition : ℕ) (o : Offer) (row : ℕ) → offerFault true edition o row ≡ Passed → PricedOffer o
-unfolding offerFault
-offer-priced edition o row e =
-    let sound = offer-sound edition o (offer-in-range true edition o row e) in
-    let given = price-given (o .price) row (andThen-left (priceFault (o .price) row) _ e) in
-    record { sound = sound; price-given = given; price-most = sound .price-to (held (o .price)) given }
-
--- ---- the rows
+use Rattle.limits.specs.Offers.{offerFault, repeatFault, stepFault, rowsFault}
+use Rattle.limits.specs.Ranges.{SoundOffer, PricedOffer}
+use Rattle.limits.proofs.PassingOffers.{offer-step, offer-sound, offer-in-range, offer-priced}
 
 module _ (pricesNeeded : Bool) (edition : ℕ) (offers : ℕ → Offer) (n : ℕ)
     (e : rowsFault pricesNeeded edition offers n ≡ Passed) where
@@ -151,3 +96,10 @@ module _ (pricesNeeded : Bool) (edition : ℕ) (offers : ℕ → Offer) (n : ℕ
 pub rows-priced : (edition : ℕ) (offers : ℕ → Offer) (n : ℕ) → rowsFault true edition offers n ≡ Passed
     → (row : ℕ) → row < n → PricedOffer (offers row)
 rows-priced edition offers n e row l = offer-priced edition (offers row) row (rows-values true edition offers n e row l)
+
+-- Where rows of edition 1 have no fault, each has step 1.
+pub rows-single : (pricesNeeded : Bool) (offers : ℕ → Offer) (n : ℕ) → rowsFault pricesNeeded 1 offers n ≡ Passed
+    → (row : ℕ) → row < n → offers row .step ≡ 1
+rows-single pricesNeeded offers n e row l =
+    eqb-true (offers row .step) 1
+    (offer-step 1 (offers row) (offer-in-range pricesNeeded 1 (offers row) row (rows-values pricesNeeded 1 offers n e row l)))

@@ -1,15 +1,14 @@
 -- The rows' first fault is found in two passes: 6, 7 and 10 by row, and then 8 among the rows before the one refused. They agree
 -- since a row that 10 refuses is past step 1, and so is not tested for 8.
 --
--- In order: the second pass, as the code makes it; rows that pass, are refused or repeat; how far the values pass; the first
--- fault of n rows.
+-- In order: rows that pass, are refused or repeat; how far the values pass; the first fault of n rows.
 -- Assumes nothing.
 use mathlib.Core.Path.{_≡_, refl, sym, _∙_}
 use mathlib.Core.Bool.{Bool, true, false, true≢false}
 use Prim.Native.Nat.{ℕ, _-_, _≤_, _<_}
 use native.Mathlib.Omega.{arith}
 use lib.Dec.{eqb}
-use borrow.Author.Tests.{eqb-true, lt-ltb, le-ltb}
+use borrow.Author.Tests.{eqb-true}
 use Rattle.laws.specs.Sum.{every}
 use Rattle.laws.proofs.Cases.{by-test}
 use Rattle.laws.proofs.Everys.{every-at}
@@ -17,7 +16,7 @@ use Rattle.values.specs.Refusals.{repeatedResource, andThen, first}
 use Rattle.values.specs.declared.Verdict.{Verdict}
 use Rattle.values.specs.declared.Verdict.the-variants.{Passed, Refused}
 use Rattle.values.specs.declared.place.Offer.{Offer}
-use Rattle.values.proofs.Firsts.{unless-true, andThen-next, andThen-refused, andThen-left, first-at, first-refused, first-ext}
+use Rattle.values.proofs.Firsts.{andThen-next, andThen-refused, first-at, first-refused, first-ext}
 use Rattle.repeats.specs.Repeats.{noRepeat}
 use Rattle.repeats.specs.inner.Repeats.{firstRepeat}
 use Rattle.limits.specs.Offers.{offerFault, repeatFault, stepFault, rowsFault}
@@ -26,19 +25,8 @@ use Rattle.steps.proofs.Following.{step-first}
 use Rattle.repeats.proofs.Failing.{by-failing}
 use Rattle.repeats.proofs.Fresh.{repeat-untested, repeat-none, repeat-at, repeat-ext}
 use Rattle.limits.proofs.Tested.{rowFault-row}
+use Rattle.limits.proofs.SecondPass.{withRepeats-repeat, withRepeats-none}
 use Rattle.limits.proofs.Lowest.{by-first, first-fewer}
-
--- ---- the second pass: a repeat was found before the refused row, or none was
-
-module _ (found : Verdict) (resources steps : ℕ → ℕ) (n limit repeat : ℕ)
-    (before : limit ≡ rowsBefore found n) (searched : repeat ≡ firstRepeat resources steps limit) where
-  pub withRepeats-repeat : repeat < limit → repeatedResource repeat ≡ withRepeats found resources steps n
-  unfolding withRepeats
-  withRepeats-repeat l = rw (← before, ← searched, lt-ltb repeat limit l)
-
-  pub withRepeats-none : limit ≤ repeat → found ≡ withRepeats found resources steps n
-  unfolding withRepeats
-  withRepeats-none l = rw (← before, ← searched, le-ltb repeat limit l)
 
 -- ---- rows that pass, are refused or repeat
 

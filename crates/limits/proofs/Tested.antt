@@ -1,7 +1,7 @@
 -- An offer's fault by the tests that the code makes of it, one of the price and one of the ranges; the row that a row's refusal
 -- names, and the offer that stands for the row before it.
 -- Assumes nothing.
-use mathlib.Core.Path.{_≡_, refl, sym, _∙_}
+use mathlib.Core.Path.{_≡_, refl}
 use mathlib.Core.Bool.{Bool, true, false, cond, not, _||_}
 use Prim.Native.Nat.{ℕ, _+_, _-_}
 use native.Mathlib.Nat.{not-suc-le-zero}

@@ -1,7 +1,7 @@
 -- `with_repeats` looks for a repeat among the rows before the refused one.
 -- Assumes nothing.
 use borrow.Author.Needs.{needs}
-use Rattle.limits.proofs.Rows.{withRepeats-repeat, withRepeats-none}
+use Rattle.limits.proofs.SecondPass.{withRepeats-repeat, withRepeats-none}
 use Rattle.limits.proofs.repeated.with_repeats.Statement.{statement}
 use Rattle.limits.proofs.repeated.with_repeats.Tie as tie
 
