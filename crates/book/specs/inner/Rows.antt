@@ -18,17 +18,17 @@ abbrev pub rowsTested : Verdict → ℕ → ℕ
 rowsTested Passed n = n
 rowsTested (Refused number row) n = row + 1
 
--- the first fault by 6 or 7 among the first n offers, and the columns of the rows up to it
-pub record ValuesRead (needed : Bool) (offers : List Offer) (n : ℕ) (fault : Verdict) (before after : Columns) : Type 0 where
-  pub found : fault ≡ valuesFault needed (offerAt offers) n
+-- the first fault by 6, 7 or 10 among the first n offers, and the columns of the rows up to it
+pub record ValuesRead (needed : Bool) (edition : ℕ) (offers : List Offer) (n : ℕ) (fault : Verdict) (before after : Columns) : Type 0 where
+  pub found : fault ≡ valuesFault needed edition (offerAt offers) n
   pub within : rowsTested fault n ≤ n
   pub read : ColumnsRead offers (rowsTested fault n) before after
 
--- how many rows stand in the columns once they are tested: all, or those up to the first that 6 or 7 refuses
-abbrev pub rowsStored : Bool → List Offer → ℕ
-rowsStored needed offers = rowsTested (valuesFault needed (offerAt offers) (length offers)) (length offers)
+-- how many rows stand in the columns once they are tested: all, or those up to the first that 6, 7 or 10 refuses
+abbrev pub rowsStored : Bool → ℕ → List Offer → ℕ
+rowsStored needed edition offers = rowsTested (valuesFault needed edition (offerAt offers) (length offers)) (length offers)
 
 -- the first fault of offers, and the columns
-pub record RowsRead (needed : Bool) (offers : List Offer) (fault : Verdict) (before after : Columns) : Type 0 where
-  pub found : fault ≡ rowsFault needed (offerAt offers) (length offers)
-  pub read : ColumnsRead offers (rowsStored needed offers) before after
+pub record RowsRead (needed : Bool) (edition : ℕ) (offers : List Offer) (fault : Verdict) (before after : Columns) : Type 0 where
+  pub found : fault ≡ rowsFault needed edition (offerAt offers) (length offers)
+  pub read : ColumnsRead offers (rowsStored needed edition offers) before after
