@@ -29,7 +29,7 @@ value-fits : (t : Bool) (n : ℕ) → n < 4294967296 → ValueFits (valueOf t n)
 value-fits true n h = h
 value-fits false n h = omega arith
 
-step-fits : (edition n : ℕ) → n < 256 → StepFits edition (stepOf edition n)
+pub step-fits : (edition n : ℕ) → n < 256 → StepFits edition (stepOf edition n)
 step-fits edition n h = record { one = λ e. rw (eq-eqb edition 1 e); byte = own (eqb edition 1) }
   where
     own : (t : Bool) → cond t 1 n < 256

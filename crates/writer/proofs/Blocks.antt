@@ -44,70 +44,71 @@ sealed-there f s z q at e whole four =
     ∙ sym (append-assoc s (seal s) q))
 
 -- the block behind others, made around its places
-block-made : (f : List ℕ) (k : ℕ) (offers : List Offer) (q : List ℕ) → length f ≡ k * 512 → length offers ≤ 15
-    → blockMade (f ++ (rawBlock offers ++ q)) k (length offers) ≡ f ++ (sealed (rowsBytes k offers) ++ q)
+block-made : (edition : ℕ) (f : List ℕ) (k : ℕ) (offers : List Offer) (q : List ℕ) → length f ≡ k * 512 → length offers ≤ 15
+    → blockMade (f ++ (rawBlock edition offers ++ q)) k (length offers) ≡ f ++ (sealed (rowsBytes edition k offers) ++ q)
 unfolding blockMade rawBlock rowsBytes u16Bytes
-block-made f k offers q e few =
+block-made edition f k offers q e few =
     let head : List ℕ = ofrs ++ (u16Bytes k ++ u16Bytes (length offers)) in
-    let rest : List ℕ = zeros 20 ++ (placesBytes offers ++ (unusedPlaces offers ++ (zeros 4 ++ q))) in
-    let cut : rawBlock offers ++ q ≡ zeros 8 ++ rest = rw (zeros-add 8 20) (simp append-assoc) in
+    let rest : List ℕ = zeros 20 ++ (placesBytes edition offers ++ (unusedPlaces offers ++ (zeros 4 ++ q))) in
+    let cut : rawBlock edition offers ++ q ≡ zeros 8 ++ rest = rw (zeros-add 8 20) (simp append-assoc) in
     let there : k * 512 ≡ k * 512 + 0 = omega arith in
-    let opened : put (f ++ (rawBlock offers ++ q)) (k * 512) head ≡ f ++ (head ++ rest) =
+    let opened : put (f ++ (rawBlock edition offers ++ q)) (k * 512) head ≡ f ++ (head ++ rest) =
     ap (λ (b : List ℕ). put (f ++ b) (k * 512) head) cut
     ∙ ap (λ (at : ℕ). put (f ++ (zeros 8 ++ rest)) at head) there
     ∙ put-after f (zeros 8 ++ rest) (k * 512) 0 head e
     ∙ ap (λ (s : List ℕ). f ++ s) (put-front (zeros 8) rest head (length-zeros 8)) in
-    let whole : head ++ rest ≡ rowsBytes k offers ++ (zeros 4 ++ q) = simp append-assoc in
+    let whole : head ++ rest ≡ rowsBytes edition k offers ++ (zeros 4 ++ q) = simp append-assoc in
     ap (λ (b : List ℕ). sealedAt b (k * 512)) (opened ∙ ap (λ (s : List ℕ). f ++ s) whole)
-    ∙ sealed-there f (rowsBytes k offers) (zeros 4) q (k * 512) e (length-rows k offers few) (length-zeros 4)
+    ∙ sealed-there f (rowsBytes edition k offers) (zeros 4) q (k * 512) e (length-rows edition k offers few) (length-zeros 4)
 
 -- ---- the blocks of rows
 
 -- one block more, at the end
-blocks-one : (j k : ℕ) (offers : List Offer)
-    → rowBlocks (suc j) k offers ≡ rowBlocks j k offers ++ sealed (rowsBytes (k + j) (offersHere offers j))
+blocks-one : (edition j k : ℕ) (offers : List Offer)
+    → rowBlocks edition (suc j) k offers ≡ rowBlocks edition j k offers ++ sealed (rowsBytes edition (k + j) (offersHere offers j))
 unfolding rowBlocks
-blocks-one zero k offers = append-nil (sealed (rowsBytes k (take 15 offers))) ∙ ap (λ (n : ℕ). sealed (rowsBytes n (take 15 offers))) (sym (add-zero k))
-blocks-one (suc j) k offers =
+blocks-one edition zero k offers =
+    append-nil (sealed (rowsBytes edition k (take 15 offers))) ∙ ap (λ (n : ℕ). sealed (rowsBytes edition n (take 15 offers))) (sym (add-zero k))
+blocks-one edition (suc j) k offers =
     let number : suc k + j ≡ k + suc j = omega arith in
     let later : 15 + j * 15 ≡ suc j * 15 = omega arith in
     let here : offersHere (drop 15 offers) j ≡ offersHere offers (suc j) =
     ap (take 15) (drop-drop (j * 15) 15 offers ∙ ap (λ (at : ℕ). drop at offers) later) in
-    ap (λ (s : List ℕ). sealed (rowsBytes k (take 15 offers)) ++ s)
-    (blocks-one j (suc k) (drop 15 offers)
-    ∙ ap₂ (λ (n : ℕ) (os : List Offer). rowBlocks j (suc k) (drop 15 offers) ++ sealed (rowsBytes n os)) number here)
-    ∙ sym (append-assoc (sealed (rowsBytes k (take 15 offers))) (rowBlocks j (suc k) (drop 15 offers)) _)
+    ap (λ (s : List ℕ). sealed (rowsBytes edition k (take 15 offers)) ++ s)
+    (blocks-one edition j (suc k) (drop 15 offers)
+    ∙ ap₂ (λ (n : ℕ) (os : List Offer). rowBlocks edition j (suc k) (drop 15 offers) ++ sealed (rowsBytes edition n os)) number here)
+    ∙ sym (append-assoc (sealed (rowsBytes edition k (take 15 offers))) (rowBlocks edition j (suc k) (drop 15 offers)) _)
 
 -- what is left of the blocks that are not made yet
-abbrev pub left : List Offer → ℕ → List ℕ
-left offers j = raw (40 - j) (drop (j * 15) offers)
+abbrev pub left : ℕ → List Offer → ℕ → List ℕ
+left edition offers j = raw edition (40 - j) (drop (j * 15) offers)
 
-left-one : (offers : List Offer) (j : ℕ) → j < 40 → left offers j ≡ rawBlock (offersHere offers j) ++ left offers (suc j)
+left-one : (edition : ℕ) (offers : List Offer) (j : ℕ) → j < 40 → left edition offers j ≡ rawBlock edition (offersHere offers j) ++ left edition offers (suc j)
 unfolding raw
-left-one offers j l =
+left-one edition offers j l =
     let more : 40 - j ≡ suc (40 - suc j) = omega arith in
     let later : j * 15 + 15 ≡ suc j * 15 = omega arith in
-    ap (λ (blocks : ℕ). raw blocks (drop (j * 15) offers)) more
-    ∙ ap (λ (os : List Offer). rawBlock (offersHere offers j) ++ raw (40 - suc j) os)
+    ap (λ (blocks : ℕ). raw edition blocks (drop (j * 15) offers)) more
+    ∙ ap (λ (os : List Offer). rawBlock edition (offersHere offers j) ++ raw edition (40 - suc j) os)
     (drop-drop 15 (j * 15) offers ∙ ap (λ (at : ℕ). drop at offers) later)
 
-module _ (h : List ℕ) (first : length h ≡ 512) (offers : List Offer) (few : length offers ≤ 600) where
+module _ (edition : ℕ) (h : List ℕ) (first : length h ≡ 512) (offers : List Offer) (few : length offers ≤ 600) where
   pub blocks-made : (j : ℕ) → j ≤ blocksFor (length offers)
-      → blocksMade (h ++ raw 40 offers) (length offers) j ≡ h ++ (rowBlocks j 1 offers ++ left offers j)
+      → blocksMade (h ++ raw edition 40 offers) (length offers) j ≡ h ++ (rowBlocks edition j 1 offers ++ left edition offers j)
   unfolding blocksMade rowBlocks
   blocks-made zero l = refl
   blocks-made (suc j) l =
       let os : List Offer = offersHere offers j in
-      let front : List ℕ = h ++ rowBlocks j 1 offers in
+      let front : List ℕ = h ++ rowBlocks edition j 1 offers in
       let long : length front ≡ (j + 1) * 512 =
-      length-append h (rowBlocks j 1 offers) ∙ ap₂ _+_ first (length-rowBlocks j 1 offers) ∙ omega arith in
+      length-append h (rowBlocks edition j 1 offers) ∙ ap₂ _+_ first (length-rowBlocks edition j 1 offers) ∙ omega arith in
       ap (λ (b : List ℕ). blockMade b (j + 1) (rowsHere (length offers) j)) (blocks-made j (omega arith))
-      ∙ ap (λ (s : List ℕ). blockMade (h ++ (rowBlocks j 1 offers ++ s)) (j + 1) (rowsHere (length offers) j)) (left-one offers j (omega arith))
+      ∙ ap (λ (s : List ℕ). blockMade (h ++ (rowBlocks edition j 1 offers ++ s)) (j + 1) (rowsHere (length offers) j)) (left-one edition offers j (omega arith))
       ∙ ap₂ (λ (b : List ℕ) (n : ℕ). blockMade b (j + 1) n)
-      (sym (append-assoc h (rowBlocks j 1 offers) (rawBlock os ++ left offers (suc j)))) (sym (length-offersHere offers j))
-      ∙ block-made front (j + 1) os (left offers (suc j)) long (offersHere-most offers j)
-      ∙ append-assoc h (rowBlocks j 1 offers) _
+      (sym (append-assoc h (rowBlocks edition j 1 offers) (rawBlock edition os ++ left edition offers (suc j)))) (sym (length-offersHere offers j))
+      ∙ block-made edition front (j + 1) os (left edition offers (suc j)) long (offersHere-most offers j)
+      ∙ append-assoc h (rowBlocks edition j 1 offers) _
       ∙ ap (λ (s : List ℕ). h ++ s)
-      (sym (append-assoc (rowBlocks j 1 offers) (sealed (rowsBytes (j + 1) os)) (left offers (suc j)))
-      ∙ ap (λ (n : ℕ). (rowBlocks j 1 offers ++ sealed (rowsBytes n os)) ++ left offers (suc j)) (add-comm j 1)
-      ∙ ap (λ (s : List ℕ). s ++ left offers (suc j)) (sym (blocks-one j 1 offers)))
+      (sym (append-assoc (rowBlocks edition j 1 offers) (sealed (rowsBytes edition (j + 1) os)) (left edition offers (suc j)))
+      ∙ ap (λ (n : ℕ). (rowBlocks edition j 1 offers ++ sealed (rowsBytes edition n os)) ++ left edition offers (suc j)) (add-comm j 1)
+      ∙ ap (λ (s : List ℕ). s ++ left edition offers (suc j)) (sym (blocks-one edition j 1 offers)))

@@ -60,17 +60,17 @@ ten : (a b c d e f g h i j z : List ℕ)
 ten a b c d e f g h i j z = simp append-assoc
 
 -- the first 32 bytes, and zeros behind them
-head-opening : (p : Parameters) (rows : ℕ) → headBytes p rows ≡ opening p rows ++ zeros 476
+head-opening : (edition : ℕ) (p : Parameters) (rows : ℕ) → headBytes edition p rows ≡ opening edition p rows ++ zeros 476
 unfolding headBytes opening
-head-opening p rows =
-    ten rpmb (u16Bytes 1) (u16Bytes (p .year)) (valueBytes (p .cost)) (valueBytes (p .offset)) (valueBytes (p .outage))
+head-opening edition p rows =
+    ten rpmb (u16Bytes edition) (u16Bytes (p .year)) (valueBytes (p .cost)) (valueBytes (p .offset)) (valueBytes (p .outage))
     (valueBytes (p .requirement)) (u16Bytes rows) (headMarks p ∷ 0 ∷ []) (valueBytes (p .margin)) (zeros 476)
     ∙ ap (λ (marks : List ℕ). opened marks ++ zeros 476) (sym (marks-bytes p))
   where
     opened : List ℕ → List ℕ
     opened marks =
         rpmb
-        ++ (u16Bytes 1
+        ++ (u16Bytes edition
         ++ (u16Bytes (p .year)
         ++ (valueBytes (p .cost)
         ++ (valueBytes (p .offset)
@@ -79,24 +79,28 @@ head-opening p rows =
         ++ (u16Bytes rows
         ++ (marks ++ valueBytes (p .margin)))))))))
 
-length-opening : (p : Parameters) (rows : ℕ) → length (opening p rows) ≡ 32
-length-opening p rows =
-    omega (arith, length-head p rows, ap length (head-opening p rows), length-append (opening p rows) (zeros 476), length-zeros 476)
+length-opening : (edition : ℕ) (p : Parameters) (rows : ℕ) → length (opening edition p rows) ≡ 32
+length-opening edition p rows =
+    omega (arith, length-head edition p rows, ap length (head-opening edition p rows), length-append (opening edition p rows) (zeros 476), length-zeros 476)
 
-head-made : (p : Parameters) (rows : ℕ) (q : List ℕ) → sealedAt (put (zeros 512 ++ q) 0 (opening p rows)) 0 ≡ sealed (headBytes p rows) ++ q
-head-made p rows q =
+head-made : (edition : ℕ) (p : Parameters) (rows : ℕ) (q : List ℕ)
+    → sealedAt (put (zeros 512 ++ q) 0 (opening edition p rows)) 0 ≡ sealed (headBytes edition p rows) ++ q
+head-made edition p rows q =
     let rest : List ℕ = zeros 476 ++ (zeros 4 ++ q) in
     let cut : zeros 512 ++ q ≡ zeros 32 ++ rest = rw (zeros-add 32 480, zeros-add 476 4) (simp append-assoc) in
-    ap (λ (b : List ℕ). sealedAt (put b 0 (opening p rows)) 0) cut
+    ap (λ (b : List ℕ). sealedAt (put b 0 (opening edition p rows)) 0) cut
     ∙ ap (λ (b : List ℕ). sealedAt b 0)
-    (put-front (zeros 32) rest (opening p rows) (length-zeros 32 ∙ sym (length-opening p rows))
-    ∙ sym (append-assoc (opening p rows) (zeros 476) (zeros 4 ++ q))
-    ∙ ap (λ (s : List ℕ). s ++ (zeros 4 ++ q)) (sym (head-opening p rows)))
-    ∙ sealed-there [] (headBytes p rows) (zeros 4) q 0 refl (length-head p rows) (length-zeros 4)
+    (put-front (zeros 32) rest (opening edition p rows) (length-zeros 32 ∙ sym (length-opening edition p rows))
+    ∙ sym (append-assoc (opening edition p rows) (zeros 476) (zeros 4 ++ q))
+    ∙ ap (λ (s : List ℕ). s ++ (zeros 4 ++ q)) (sym (head-opening edition p rows)))
+    ∙ sealed-there [] (headBytes edition p rows) (zeros 4) q 0 refl (length-head edition p rows) (length-zeros 4)
 
 -- ---- the book
 
 module _ (c : Contents) (few : length (c .offers) ≤ 600) where
+  abbrev edition : ℕ
+  edition = c .edition
+
   abbrev offers : List Offer
   offers = c .offers
 
@@ -106,14 +110,14 @@ module _ (c : Contents) (few : length (c .offers) ≤ 600) where
   abbrev blocks : ℕ
   blocks = blocksFor n
 
-  book-made : bookMade (c .parameters) n (rawBook offers) ≡ encode c ++ left offers blocks
+  book-made : bookMade edition (c .parameters) n (rawBook edition offers) ≡ encode c ++ left edition offers blocks
   unfolding bookMade encode
   book-made =
-      let h : List ℕ = sealed (headBytes (c .parameters) n) in
-      ap (λ (b : List ℕ). blocksMade b n blocks) (head-made (c .parameters) n (raw 40 offers))
-      ∙ blocks-made h (length-sealed _ (length-head (c .parameters) n)) offers few blocks (omega arith)
-      ∙ sym (append-assoc h (rowBlocks blocks 1 offers) (left offers blocks))
+      let h : List ℕ = sealed (headBytes edition (c .parameters) n) in
+      ap (λ (b : List ℕ). blocksMade b n blocks) (head-made edition (c .parameters) n (raw edition 40 offers))
+      ∙ blocks-made edition h (length-sealed _ (length-head edition (c .parameters) n)) offers few blocks (omega arith)
+      ∙ sym (append-assoc h (rowBlocks edition blocks 1 offers) (left edition offers blocks))
 
   -- The bytes of the book that is made are those of the book that says the contents.
-  pub book-encoded : take (bytesFor n) (bookMade (c .parameters) n (rawBook offers)) ≡ encode c
-  book-encoded = ap (take (bytesFor n)) book-made ∙ take-at (encode c) (left offers blocks) (bytesFor n) (encode-length c)
+  pub book-encoded : take (bytesFor n) (bookMade edition (c .parameters) n (rawBook edition offers)) ≡ encode c
+  book-encoded = ap (take (bytesFor n)) book-made ∙ take-at (encode c) (left edition offers blocks) (bytesFor n) (encode-length c)

@@ -17,14 +17,14 @@ pub bytes-for-decided : (rows r s : ℕ) → bytes-for.Post tt (rows, tt) r (row
 bytes-for-decided rows r s e f = e .0 ∙ sym (f .0)
 
 -- the book that is made and its first fault
-made-same : (p : Parameters) (rows : ℕ) (b : List ℕ) (r s : Verdict) (b₁ b₂ : List ℕ) → Made p rows b r b₁ → Made p rows b s b₂
+made-same : (edition : ℕ) (p : Parameters) (rows : ℕ) (b : List ℕ) (r s : Verdict) (b₁ b₂ : List ℕ) → Made edition p rows b r b₁ → Made edition p rows b s b₂
     → (r ≡ s) × (b₁ ≡ b₂)
-made-same p rows b r s b₁ b₂ x y = (x .fault ∙ sym (y .fault), x .made ∙ sym (y .made))
+made-same edition p rows b r s b₁ b₂ x y = (x .fault ∙ sym (y .fault), x .made ∙ sym (y .made))
 
 -- both, by the contract of `make_book`
-pub make-book-decided : (κs : Lfts 1) (p : Parameters) (rows : ℕ) (book₁ book₂ book₁′ book₂′ : RefT (List ℕ)) (r s : Verdict)
+pub make-book-decided : (κs : Lfts 1) (edition : ℕ) (p : Parameters) (rows : ℕ) (book₁ book₂ book₁′ book₂′ : RefT (List ℕ)) (r s : Verdict)
     → now book₁ ≡ now book₂
-    → make-book.Post κs (p, (rows, (book₁, tt))) r (p, (rows, (book₁′, tt)))
-    → make-book.Post κs (p, (rows, (book₂, tt))) s (p, (rows, (book₂′, tt)))
+    → make-book.Post κs (edition, (p, (rows, (book₁, tt)))) r (edition, (p, (rows, (book₁′, tt))))
+    → make-book.Post κs (edition, (p, (rows, (book₂, tt)))) s (edition, (p, (rows, (book₂′, tt))))
     → (r ≡ s) × (now book₁′ ≡ now book₂′)
-make-book-decided κs p rows book₁ book₂ book₁′ book₂′ r s same x y = made-same p rows (now book₁) _ _ _ _ x (rw same y)
+make-book-decided κs edition p rows book₁ book₂ book₁′ book₂′ r s same x y = made-same edition p rows (now book₁) _ _ _ _ x (rw same y)

@@ -7,9 +7,10 @@ use mathlib.Core.List.{List}
 use lib.Dec.{leb}
 use lib.ListN.{take}
 use Rattle.values.specs.Contents.{offerAt}
-use Rattle.values.specs.Refusals.{unless, andThen, tooManyRows, bufferBy}
+use Rattle.values.specs.Refusals.{unless, andThen, wrongLayout, tooManyRows, bufferBy}
 use Rattle.values.specs.declared.Verdict.{Verdict}
 use Rattle.values.specs.declared.head.Parameters.{Parameters}
+use Rattle.layout.specs.Layout.{editionKnown}
 use Rattle.layout.specs.Section.{blocksFor}
 use Rattle.layout.specs.Read.{rowOffers}
 use Rattle.limits.specs.Parameters.{rangeFault}
@@ -20,16 +21,18 @@ use Rattle.making.specs.inner.Made.{bookMade}
 abbrev pub bytesFor : ℕ → ℕ
 bytesFor rows = 512 * (1 + blocksFor rows)
 
--- 19, and then 5
-unfoldable pub beforeMade : Parameters → ℕ → Verdict
-beforeMade p rows = andThen (unless (leb rows 600) tooManyRows) (rangeFault p)
+-- 3 of the edition, 19, and then 5
+unfoldable pub beforeMade : ℕ → Parameters → ℕ → Verdict
+beforeMade edition p rows =
+    andThen (unless (editionKnown edition) (wrongLayout 0)) (andThen (unless (leb rows 600) tooManyRows) (rangeFault p))
 
--- and then 7 and 8 of the rows that are read from the book made
-unfoldable pub madeFault : Parameters → ℕ → List ℕ → Verdict
-madeFault p rows b =
-    andThen (beforeMade p rows) (rowsFault false (offerAt (rowOffers (take (bytesFor rows) (bookMade p rows b)) 1 rows)) rows)
+-- and then 7, 8 and 10 of the rows that are read from the book made
+unfoldable pub madeFault : ℕ → Parameters → ℕ → List ℕ → Verdict
+madeFault edition p rows b =
+    andThen (beforeMade edition p rows)
+    (rowsFault false edition (offerAt (rowOffers (take (bytesFor rows) (bookMade edition p rows b)) edition 1 rows)) rows)
 
 -- what making a book answers and leaves
-pub record Made (p : Parameters) (rows : ℕ) (b : List ℕ) (r : Verdict) (b′ : List ℕ) : Type 0 where
-  pub fault : r ≡ madeFault p rows b
-  pub made : b′ ≡ bufferBy (beforeMade p rows) b (bookMade p rows b)
+pub record Made (edition : ℕ) (p : Parameters) (rows : ℕ) (b : List ℕ) (r : Verdict) (b′ : List ℕ) : Type 0 where
+  pub fault : r ≡ madeFault edition p rows b
+  pub made : b′ ≡ bufferBy (beforeMade edition p rows) b (bookMade edition p rows b)
