@@ -1,38 +1,44 @@
 // The rows of a section: read once into columns, with their values' faults and a repeated resource among those before.
 use layout::reader::row_bytes;
+use limits::offers::offer_fault;
 use limits::offers::row_fault;
 use limits::repeated::with_repeats;
-use values::Value;
 use values::Verdict;
 use values::least_of;
 use values::number_held;
 use values::place::Offer;
 use values::place::offer_in;
 ghost use mathlib.Core.Path.{_≡_};
+ghost use Prim.Native.Nat.{_+_, _-_, _*_, _/_, _≤_};
+ghost use lib.ListN.{length};
 ghost use Rattle.columns.specs.inner.Columns.{columnsOf, Room};
 ghost use Rattle.limits.specs.Offers.{rowsFault};
-ghost use Rattle.values.specs.Contents.{noOffer, offerAt};
-ghost use Rattle.layout.specs.Read.{rowOffers};
+ghost use Rattle.limits.specs.inner.Rows.{rowFault};
+ghost use Rattle.values.specs.Contents.{offerAt};
+ghost use Rattle.layout.specs.Read.{rowOffer, rowOffers};
 ghost use Rattle.layout.specs.inner.Read.{Inside};
 ghost use Rattle.book.specs.inner.Rows.{ValuesRead, RowsRead};
 
-// What stands before row 0, where no row is: an offer of nothing.
-fn no_offer() -> Offer
-    ensures { λ r. ⌜ r ≡ noOffer ⌝ }
+// The row before a row; for row 0, which has none, row 0.
+fn row_before(row: u32) -> usize
+    ensures { λ r. ⌜ r ≡ row - 1 ⌝ }
 {
-    Offer {
-        resource: 0,
-        seller: 0,
-        price: Value::Given(0),
-        quantity: 0,
-        block: Value::Missing,
-        stamp: 0,
-        step: 0,
-    }
+    if row == 0 { 0 } else { row as usize - 1 }
 }
 
-// The first fault by 6, 7 or 10 among n rows that stand from the block `first` on, with the columns of the rows up to it. A row
-// goes on to the next turn as the one before it, so that none is decoded twice.
+// 6, where prices are needed, 7 and 10 of a row, whose own offer is at hand. Only past step 1 the row before it is read.
+fn row_tested(book: &[u8], edition: u32, first: usize, needed: bool, o: Offer, row: u32) -> Verdict
+    requires { ⌜ (first + row / 15) * 512 + 512 ≤ length (now book) ⌝ }
+    ensures { λ r. ⌜ r ≡ rowFault needed edition (rowOffer (now (book .entry)) edition first (row - 1)) o row ⌝ }
+{
+    if o.step == 1 {
+        return offer_fault(needed, edition, o, row);
+    }
+    let before = offer_in(row_bytes(book, first, row_before(row)), edition);
+    row_fault(needed, edition, before, o, row)
+}
+
+// The first fault by 6, 7 or 10 among n rows that stand from the block `first` on, with the columns of the rows up to it.
 fn values_fault(
     book: &[u8],
     edition: u32,
@@ -51,7 +57,6 @@ fn values_fault(
         (columnsOf (now (prices .entry)) (now (quantities .entry)) (now (leasts .entry)) (now (resources .entry)) (now (stamps .entry)) (now (steps .entry)))
         (columnsOf (now (prices .exit)) (now (quantities .exit)) (now (leasts .exit)) (now (resources .exit)) (now (stamps .exit)) (now (steps .exit))) ⌝ }
 {
-    let mut before = no_offer();
     let mut row: u32 = 0;
     while row < n {
         let at = row as usize;
@@ -64,10 +69,9 @@ fn values_fault(
         resources[at] = o.resource;
         stamps[at] = o.stamp;
         steps[at] = o.step;
-        if let Verdict::Refused(number, place) = row_fault(needed, edition, before, o, row) {
+        if let Verdict::Refused(number, place) = row_tested(book, edition, first, needed, o, row) {
             return Verdict::Refused(number, place);
         }
-        before = o;
         row += 1;
     }
     Verdict::Passed

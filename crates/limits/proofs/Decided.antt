@@ -2,7 +2,7 @@
 -- bytes and the resource numbers lie.
 --
 -- In order: the years that go by the margin, 4 by the marks and in a block 0, numbers within limits, 5, 4 and 5 of parameters
--- outside a book, the steps of an edition, 6, 7 and 10 of a row, 8.
+-- outside a book, the steps of an edition, 6 and 7 of an offer, 6, 7 and 10 of a row, 8.
 -- Assumes nothing.
 use mathlib.Core.Path.{_≡_, sym, ap, ap₂, _∙_}
 use mathlib.Core.Bool.{Bool}
@@ -26,6 +26,7 @@ use Rattle.limits.proofs.parameters.given_within.Reads as given-within
 use Rattle.limits.proofs.parameters.parameter_fault.Reads as parameter-fault
 use Rattle.limits.proofs.given.parameters_verdict.Reads as parameters-verdict
 use Rattle.limits.proofs.offers.step_within.Reads as step-within
+use Rattle.limits.proofs.offers.offer_fault.Reads as offer-fault
 use Rattle.limits.proofs.offers.row_fault.Reads as row-fault
 use Rattle.limits.proofs.repeated.with_repeats.Reads as with-repeats
 
@@ -74,6 +75,12 @@ pub step-within-decided : (edition step : ℕ) (r s : Bool)
     → step-within.Post tt (edition, (step, tt)) r (edition, (step, tt))
     → step-within.Post tt (edition, (step, tt)) s (edition, (step, tt)) → r ≡ s
 step-within-decided edition step r s e f = e ∙ sym f
+
+-- 6 and 7, by the contract of `offer_fault`
+pub offer-fault-decided : (needed : Bool) (edition : ℕ) (o : Offer) (row : ℕ) (r s : Verdict)
+    → offer-fault.Post tt (needed, (edition, (o, (row, tt)))) r (needed, (edition, (o, (row, tt))))
+    → offer-fault.Post tt (needed, (edition, (o, (row, tt)))) s (needed, (edition, (o, (row, tt)))) → r ≡ s
+offer-fault-decided needed edition o row r s e f = e ∙ sym f
 
 -- 6, where prices are needed, 7 and 10, by the contract of `row_fault`
 pub row-fault-decided : (pricesNeeded : Bool) (edition : ℕ) (before o : Offer) (row : ℕ) (r s : Verdict)

@@ -1,22 +1,21 @@
 -- An offer's fault by the tests that the code makes of it, one of the price and one of the ranges; the row that a row's refusal
--- names, and the offer that stands for the row before it.
+-- names; a row with step 1.
 -- Assumes nothing.
 use mathlib.Core.Path.{_≡_, refl}
 use mathlib.Core.Bool.{Bool, true, false, cond, not, _||_}
-use Prim.Native.Nat.{ℕ, _+_, _-_}
-use native.Mathlib.Nat.{not-suc-le-zero}
-use native.Mathlib.Omega.{arith}
+use Prim.Native.Nat.{ℕ}
 use borrow.Author.Tests.{not-true, not-false}
 use Rattle.values.specs.Refusals.{noPrice, offerOutOfRange, brokenSteps, unless, andThen}
 use Rattle.values.specs.declared.Value.{Value}
 use Rattle.values.specs.declared.Value.the-variants.{Given, Missing}
+use Rattle.values.specs.declared.Verdict.{Verdict}
 use Rattle.values.specs.declared.Verdict.the-variants.{Passed, Refused}
 use Rattle.values.specs.declared.place.Offer.{Offer}
 use Rattle.limits.specs.Offers.{priceFault, offerInRange, offerFault, stepFault}
 use Rattle.limits.specs.inner.Offers.{isGiven}
-use Rattle.limits.specs.inner.Rows.{rowFault, RowBefore}
+use Rattle.limits.specs.inner.Rows.{rowFault}
 use Rattle.steps.specs.Steps.{stepHolds}
-use Rattle.steps.proofs.Following.{step-before}
+use Rattle.steps.proofs.Following.{step-first}
 
 priceFault-tested : (pricesNeeded : Bool) (price : Value) (row : ℕ)
     → cond pricesNeeded (priceFault price row) Passed ≡ unless (isGiven price || not pricesNeeded) (noPrice row)
@@ -56,6 +55,10 @@ tested-row true true false row number place e = cc
 tested-row true false u row number place e = cc
 tested-row false t u row number place e = cc
 
+fault-alone : (v : Verdict) → andThen v Passed ≡ v
+fault-alone Passed = refl
+fault-alone (Refused number place) = refl
+
 module _ (pricesNeeded : Bool) (edition : ℕ) where
   -- A refusal of a row names that row.
   pub rowFault-row : (before o : Offer) (row number place : ℕ)
@@ -65,17 +68,8 @@ module _ (pricesNeeded : Bool) (edition : ℕ) where
       tested-row (isGiven (o .price) || not pricesNeeded) (offerInRange edition o) (stepHolds before o row) row number place
       (rw (offerFault-tested pricesNeeded edition o row) at e)
 
-  -- The offers at hand are the row's own and that of the row before.
-  pub rowFault-own : (offers : ℕ → Offer) (row : ℕ) {before o : Offer} → RowBefore offers row before → o ≡ offers row
-      → rowFault pricesNeeded edition before o row ≡ rowFault pricesNeeded edition (offers (row - 1)) (offers row) row
+  -- A row with step 1 is refused by 6 and 7 alone.
+  pub rowFault-first : (before o : Offer) (row : ℕ) → o .step ≡ 1
+      → rowFault pricesNeeded edition before o row ≡ offerFault pricesNeeded edition o row
   unfolding rowFault stepFault
-  rowFault-own offers row {before} {o} h own =
-      rw (step-before before (offers (row - 1)) o row h, own)
-
--- before row 0 any offer stands for the row before
-pub before-none : (offers : ℕ → Offer) (before : Offer) → RowBefore offers 0 before
-before-none offers before l = absurd (not-suc-le-zero l)
-
--- a row's offer stands for it once the next row is reached
-pub before-next : (offers : ℕ → Offer) (row : ℕ) {o : Offer} → o ≡ offers row → RowBefore offers (row + 1) o
-before-next offers row own l = let same : row + 1 - 1 ≡ row = omega arith in rw same own
+  rowFault-first before o row one = rw (step-first before o row one) (fault-alone (offerFault pricesNeeded edition o row))

@@ -47,7 +47,7 @@ fn offer_in_range(edition: u32, o: Offer) -> bool
 }
 
 // 6, where prices are needed, and 7.
-fn offer_fault(needed: bool, edition: u32, o: Offer, row: u32) -> Verdict
+pub fn offer_fault(needed: bool, edition: u32, o: Offer, row: u32) -> Verdict
     ensures { λ r. ⌜ r ≡ offerFault needed edition o row ⌝ }
 {
     let price = o.price;

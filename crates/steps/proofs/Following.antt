@@ -1,12 +1,10 @@
 -- What a row that keeps the rules of steps is: the first step of its resource, or one that follows the row before it.
 --
--- In order: the prices of neighbouring steps, a block; an offer that follows; a row past step 1; a row of step 1; the offer
--- that stands for the row before, which row 0 does not have.
+-- In order: the prices of neighbouring steps, a block; an offer that follows; a row past step 1; a row of step 1.
 -- Assumes nothing.
 use mathlib.Core.Path.{_≡_, refl}
 use mathlib.Core.Bool.{true, _&&_, false≢true}
-use Prim.Native.Nat.{ℕ, zero, suc, _+_, _-_, _≤_, _<_}
-use native.Mathlib.Omega.{arith}
+use Prim.Native.Nat.{ℕ, _+_, _≤_, _<_}
 use lib.Dec.{eqb, ltb}
 use borrow.Author.Tests.{eqb-true, eq-eqb, ne-eqb, leb-true, ltb-true}
 use Rattle.laws.proofs.Cases.{and-left, and-right}
@@ -58,9 +56,3 @@ module _ (before o : Offer) where
     pub step-first : o .step ≡ 1 → stepHolds before o row ≡ true
     unfolding stepHolds
     step-first e = rw (eq-eqb (o .step) 1 e)
-
--- the offer that stands for the row before matters only where there is one
-pub step-before : (before other o : Offer) (row : ℕ) → (0 < row → before ≡ other) → stepHolds before o row ≡ stepHolds other o row
-unfolding stepHolds
-step-before before other o zero h = refl
-step-before before other o (suc row) h = rw (h (omega arith))

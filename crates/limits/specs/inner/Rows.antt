@@ -1,7 +1,6 @@
 -- The rows' first fault in two passes: 6, 7 and 10 by row, and then 8 among the rows before the one refused.
 -- Assumes nothing.
-use Prim.Native.Nat.{ℕ, _-_, _<_}
-use mathlib.Core.Path.{_≡_}
+use Prim.Native.Nat.{ℕ, _-_}
 use mathlib.Core.Bool.{Bool, cond}
 use lib.Dec.{ltb}
 use Rattle.values.specs.Refusals.{repeatedResource, andThen, first}
@@ -18,10 +17,6 @@ rowFault pricesNeeded edition before o row = andThen (offerFault pricesNeeded ed
 -- the first row that has one of them
 unfoldable pub valuesFault : Bool → ℕ → (ℕ → Offer) → ℕ → Verdict
 valuesFault pricesNeeded edition offers n = first (λ row. rowFault pricesNeeded edition (offers (row - 1)) (offers row) row) n
-
--- an offer stands for the row before: it is that row's, where there is one
-abbrev pub RowBefore : (ℕ → Offer) → ℕ → Offer → Type 0
-RowBefore offers row before = 0 < row → before ≡ offers (row - 1)
 
 -- how many rows stand before the one that the fault found refuses: all n where none is refused
 abbrev pub rowsBefore : Verdict → ℕ → ℕ
