@@ -40,7 +40,7 @@ use Rattle.writer.proofs.Books.{book-encoded}
 use Rattle.writer.proofs.LeftOut.{stands-at, offers-same, offers-stand}
 use Rattle.writer.proofs.Ranges.{range-fits, placed-fits, placed-step}
 
-by-verdict {ℓ} : {X : Type ℓ} (v : Verdict) → (v ≡ Passed → X) → ((number place : ℕ) → v ≡ Refused number place → X) → X
+pub by-verdict {ℓ} : {X : Type ℓ} (v : Verdict) → (v ≡ Passed → X) → ((number place : ℕ) → v ≡ Refused number place → X) → X
 by-verdict Passed f g = f refl
 by-verdict (Refused number place) f g = g number place refl
 

@@ -43,7 +43,7 @@ module _ (edition : ℕ) where
   raw zero offers = []
   raw (suc blocks) offers = rawBlock (take 15 offers) ++ raw blocks (drop 15 offers)
 
-  pub length-raw : (blocks : ℕ) (offers : List Offer) → length (raw blocks offers) ≡ blocks * 512
+  length-raw : (blocks : ℕ) (offers : List Offer) → length (raw blocks offers) ≡ blocks * 512
   unfolding raw
   length-raw zero offers = refl
   length-raw (suc blocks) offers =
@@ -63,3 +63,6 @@ module _ (edition : ℕ) where
   -- the book before it is made
   abbrev pub rawBook : List Offer → List ℕ
   rawBook offers = zeros 512 ++ raw 40 offers
+
+  pub length-rawBook : (offers : List Offer) → length (rawBook offers) ≡ 20992
+  length-rawBook offers = length-append (zeros 512) (raw 40 offers) ∙ ap₂ _+_ (length-zeros 512) (length-raw 40 offers)

@@ -25,7 +25,7 @@ same-length c = search needs
 returns : tie.Need-returns
 returns c =
     let a = c .before .before .before .before .before .before .args in
-    c .before .before .put-row .ensures ∙ ap (putRow (a .book .now) (a .i)) (c .before .before .before .offer-in .ensures)
+    c .before .before .put-row .ensures ∙ ap (putRow (a .book .now) (a .edition) (a .i)) (c .before .before .before .offer-in .ensures)
 
 pub put-row-spec : {M : Type 1} → statement M
 put-row-spec = tie.close (tie.spec offer-in-requires put-row-requires same-length returns)
