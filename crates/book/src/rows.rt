@@ -1,41 +1,43 @@
 // The rows of a section: read once into columns, with their values' faults and a repeated resource among those before.
 use layout::reader::row_bytes;
 use limits::offers::offer_fault;
-use limits::offers::row_fault;
+use limits::offers::past_fault;
 use limits::repeated::with_repeats;
+use steps::step_follows;
 use values::Verdict;
 use values::least_of;
 use values::number_held;
 use values::place::Offer;
 use values::place::offer_in;
 ghost use mathlib.Core.Path.{_≡_};
-ghost use Prim.Native.Nat.{_+_, _-_, _*_, _/_, _≤_};
-ghost use lib.ListN.{length};
+ghost use Prim.Native.Nat.{_-_};
 ghost use Rattle.columns.specs.inner.Columns.{columnsOf, Room};
 ghost use Rattle.limits.specs.Offers.{rowsFault};
 ghost use Rattle.limits.specs.inner.Rows.{rowFault};
 ghost use Rattle.values.specs.Contents.{offerAt};
 ghost use Rattle.layout.specs.Read.{rowOffer, rowOffers};
 ghost use Rattle.layout.specs.inner.Read.{Inside};
-ghost use Rattle.book.specs.inner.Rows.{ValuesRead, RowsRead};
+ghost use Rattle.book.specs.inner.Rows.{RowAt, ValuesRead, RowsRead};
 
-// The row before a row; for row 0, which has none, row 0.
-fn row_before(row: u32) -> usize
-    ensures { λ r. ⌜ r ≡ row - 1 ⌝ }
-{
-    if row == 0 { 0 } else { row as usize - 1 }
-}
-
-// 6, where prices are needed, 7 and 10 of a row, whose own offer is at hand. Only past step 1 the row before it is read.
-fn row_tested(book: &[u8], edition: u32, first: usize, needed: bool, o: Offer, row: u32) -> Verdict
-    requires { ⌜ (first + row / 15) * 512 + 512 ≤ length (now book) ⌝ }
+// 6, where prices are needed, 7 and 10 of a row, whose own offer is at hand. Only past step 1 the row before it is read, for which
+// row 0 stands itself: it does not follow itself.
+fn row_tested(
+    book: &[u8],
+    edition: u32,
+    first: usize,
+    needed: bool,
+    o: Offer,
+    before: usize,
+    row: u32,
+) -> Verdict
+    requires { ⌜ RowAt (now book) edition first o before row ⌝ }
     ensures { λ r. ⌜ r ≡ rowFault needed edition (rowOffer (now (book .entry)) edition first (row - 1)) o row ⌝ }
 {
     if o.step == 1 {
         return offer_fault(needed, edition, o, row);
     }
-    let before = offer_in(row_bytes(book, first, row_before(row)), edition);
-    row_fault(needed, edition, before, o, row)
+    let follows = step_follows(offer_in(row_bytes(book, first, before), edition), o);
+    past_fault(needed, edition, o, follows, row)
 }
 
 // The first fault by 6, 7 or 10 among n rows that stand from the block `first` on, with the columns of the rows up to it.
@@ -57,6 +59,7 @@ fn values_fault(
         (columnsOf (now (prices .entry)) (now (quantities .entry)) (now (leasts .entry)) (now (resources .entry)) (now (stamps .entry)) (now (steps .entry)))
         (columnsOf (now (prices .exit)) (now (quantities .exit)) (now (leasts .exit)) (now (resources .exit)) (now (stamps .exit)) (now (steps .exit))) ⌝ }
 {
+    let mut before: usize = 0;
     let mut row: u32 = 0;
     while row < n {
         let at = row as usize;
@@ -69,9 +72,18 @@ fn values_fault(
         resources[at] = o.resource;
         stamps[at] = o.stamp;
         steps[at] = o.step;
-        if let Verdict::Refused(number, place) = row_tested(book, edition, first, needed, o, row) {
+        if let Verdict::Refused(number, place) = row_tested(
+            book,
+            edition,
+            first,
+            needed,
+            o,
+            before,
+            row,
+        ) {
             return Verdict::Refused(number, place);
         }
+        before = at;
         row += 1;
     }
     Verdict::Passed

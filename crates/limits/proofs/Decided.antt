@@ -2,7 +2,7 @@
 -- bytes and the resource numbers lie.
 --
 -- In order: the years that go by the margin, 4 by the marks and in a block 0, numbers within limits, 5, 4 and 5 of parameters
--- outside a book, the steps of an edition, 6 and 7 of an offer, 6, 7 and 10 of a row, 8.
+-- outside a book, the steps of an edition, 6 and 7 of an offer, 6, 7 and 10 of a row past step 1, 8.
 -- Assumes nothing.
 use mathlib.Core.Path.{_≡_, sym, ap, ap₂, _∙_}
 use mathlib.Core.Bool.{Bool}
@@ -27,7 +27,7 @@ use Rattle.limits.proofs.parameters.parameter_fault.Reads as parameter-
 use Rattle.limits.proofs.given.parameters_verdict.Reads as parameters-verdict
 use Rattle.limits.proofs.offers.step_within.Reads as step-within
 use Rattle.limits.proofs.offers.offer_fault.Reads as offer-fault
-use Rattle.limits.proofs.offers.row_fault.Reads as row-fault
+use Rattle.limits.proofs.offers.past_fault.Reads as past-fault
 use Rattle.limits.proofs.repeated.with_repeats.Reads as with-repeats
 
 -- whether a year's curve goes by the margin, by the contract of `by_margin`
@@ -82,12 +82,12 @@ pub offer-fault-decided : (needed : Bool) (edition : ℕ) (o : Offer) (row : ℕ
     → offer-fault.Post tt (needed, (edition, (o, (row, tt)))) s (needed, (edition, (o, (row, tt)))) → r ≡ s
 offer-fault-decided needed edition o row r s e f = e ∙ sym f
 
--- 6, where prices are needed, 7 and 10, by the contract of `row_fault`
-pub row-fault-decided : (pricesNeeded : Bool) (edition : ℕ) (before o : Offer) (row : ℕ) (r s : Verdict)
-    → row-fault.Post tt (pricesNeeded, (edition, (before, (o, (row, tt))))) r (pricesNeeded, (edition, (before, (o, (row, tt)))))
-    → row-fault.Post tt (pricesNeeded, (edition, (before, (o, (row, tt))))) s (pricesNeeded, (edition, (before, (o, (row, tt)))))
+-- 6, 7 and 10 past step 1, by the contract of `past_fault`
+pub past-fault-decided : (needed : Bool) (edition : ℕ) (o : Offer) (follows : Bool) (row : ℕ) (r s : Verdict)
+    → past-fault.Post tt (needed, (edition, (o, (follows, (row, tt))))) r (needed, (edition, (o, (follows, (row, tt)))))
+    → past-fault.Post tt (needed, (edition, (o, (follows, (row, tt))))) s (needed, (edition, (o, (follows, (row, tt)))))
     → r ≡ s
-row-fault-decided pricesNeeded edition before o row r s e f = e ∙ sym f
+past-fault-decided needed edition o follows row r s e f = e ∙ sym f
 
 -- the first fault of n rows, by the contract of `with_repeats`
 pub with-repeats-decided : (κs : Lfts 2) (found : Verdict) (resources others steps counts : RefT (List ℕ)) (n : ℕ) (r s : Verdict)

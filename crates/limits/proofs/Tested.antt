@@ -1,5 +1,5 @@
 -- An offer's fault by the tests that the code makes of it, one of the price and one of the ranges; the row that a row's refusal
--- names; a row with step 1.
+-- names; a row with step 1, and one past it.
 -- Assumes nothing.
 use mathlib.Core.Path.{_≡_, refl}
 use mathlib.Core.Bool.{Bool, true, false, cond, not, _||_}
@@ -13,9 +13,9 @@ use Rattle.values.specs.declared.Verdict.the-variants.{Passed, Refused}
 use Rattle.values.specs.declared.place.Offer.{Offer}
 use Rattle.limits.specs.Offers.{priceFault, offerInRange, offerFault, stepFault}
 use Rattle.limits.specs.inner.Offers.{isGiven}
-use Rattle.limits.specs.inner.Rows.{rowFault}
-use Rattle.steps.specs.Steps.{stepHolds}
-use Rattle.steps.proofs.Following.{step-first}
+use Rattle.limits.specs.inner.Rows.{rowFault, pastFault}
+use Rattle.steps.specs.Steps.{stepFollows, stepHolds}
+use Rattle.steps.proofs.Following.{step-first, step-past-holds}
 
 priceFault-tested : (pricesNeeded : Bool) (price : Value) (row : ℕ)
     → cond pricesNeeded (priceFault price row) Passed ≡ unless (isGiven price || not pricesNeeded) (noPrice row)
@@ -55,7 +55,8 @@ tested-row true true false row number place e = cc
 tested-row true false u row number place e = cc
 tested-row false t u row number place e = cc
 
-fault-alone : (v : Verdict) → andThen v Passed ≡ v
+-- a fault with nothing behind it
+pub fault-alone : (v : Verdict) → andThen v Passed ≡ v
 fault-alone Passed = refl
 fault-alone (Refused number place) = refl
 
@@ -73,3 +74,9 @@ module _ (pricesNeeded : Bool) (edition : ℕ) where
       → rowFault pricesNeeded edition before o row ≡ offerFault pricesNeeded edition o row
   unfolding rowFault stepFault
   rowFault-first before o row one = rw (step-first before o row one) (fault-alone (offerFault pricesNeeded edition o row))
+
+  -- Past step 1 it is told by whether it follows the row before, for which row 0 may stand itself.
+  pub rowFault-past : (before o : Offer) (row : ℕ) → (o .step ≡ 1 → ⊥) → (row ≡ 0 → before ≡ o)
+      → rowFault pricesNeeded edition before o row ≡ pastFault pricesNeeded edition o (stepFollows before o) row
+  unfolding rowFault stepFault pastFault
+  rowFault-past before o row past own = rw (step-past-holds before o row past own)

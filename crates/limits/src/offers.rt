@@ -1,15 +1,14 @@
 // Refusals 6, 7 and 10: an offer with no price, with a value out of range, or past step 1 and not behind the step before it.
 use crate::parameters::given_within;
 use crate::parameters::within;
-use steps::step_holds;
 use values::Value;
 use values::Verdict;
 use values::and_then;
 use values::place::Offer;
 ghost use mathlib.Core.Path.{_≡_};
-ghost use Rattle.limits.specs.Offers.{stepWithin, offerInRange, offerFault, stepFault};
+ghost use Rattle.limits.specs.Offers.{stepWithin, offerInRange, offerFault};
 ghost use Rattle.limits.specs.inner.Offers.{isGiven};
-ghost use Rattle.limits.specs.inner.Rows.{rowFault};
+ghost use Rattle.limits.specs.inner.Rows.{pastFault};
 
 // Whether a value is given.
 fn is_given(v: Value) -> bool
@@ -62,23 +61,13 @@ pub fn offer_fault(needed: bool, edition: u32, o: Offer, row: u32) -> Verdict
     Verdict::Passed
 }
 
-// 10: the row breaks the rules of steps.
-fn step_fault(before: Offer, o: Offer, row: u32) -> Verdict
-    ensures { λ r. ⌜ r ≡ stepFault before o row ⌝ }
+// 6, where prices are needed, 7 and 10 of a row past step 1, which follows the row before it or does not.
+pub fn past_fault(needed: bool, edition: u32, o: Offer, follows: bool, row: u32) -> Verdict
+    ensures { λ r. ⌜ r ≡ pastFault needed edition o follows row ⌝ }
 {
-    if step_holds(before, o, row) {
-        Verdict::Passed
-    } else {
-        Verdict::Refused(10, row)
+    let fault = offer_fault(needed, edition, o, row);
+    if follows {
+        return fault;
     }
-}
-
-// 6, where prices are needed, 7 and 10 of a row, with the offer of the row before it: for row 0 any will do.
-pub fn row_fault(needed: bool, edition: u32, before: Offer, o: Offer, row: u32) -> Verdict
-    ensures { λ r. ⌜ r ≡ rowFault needed edition before o row ⌝ }
-{
-    and_then(
-        offer_fault(needed, edition, o, row),
-        step_fault(before, o, row),
-    )
+    and_then(fault, Verdict::Refused(10, row))
 }

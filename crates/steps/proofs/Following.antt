@@ -1,13 +1,15 @@
 -- What a row that keeps the rules of steps is: the first step of its resource, or one that follows the row before it.
 --
--- In order: the prices of neighbouring steps, a block; an offer that follows; a row past step 1; a row of step 1.
+-- In order: the prices of neighbouring steps, a block; an offer that follows; a row past step 1; a row of step 1; how the rules are
+-- tested past step 1.
 -- Assumes nothing.
-use mathlib.Core.Path.{_≡_, refl}
-use mathlib.Core.Bool.{true, _&&_, false≢true}
+use mathlib.Core.Path.{_≡_, refl, sym, ap, _∙_}
+use mathlib.Core.Bool.{true, false, _&&_, false≢true}
 use Prim.Native.Nat.{ℕ, _+_, _≤_, _<_}
+use native.Mathlib.Omega.{arith}
 use lib.Dec.{eqb, ltb}
-use borrow.Author.Tests.{eqb-true, eq-eqb, ne-eqb, leb-true, ltb-true}
-use Rattle.laws.proofs.Cases.{and-left, and-right}
+use borrow.Author.Tests.{eqb-true, eq-eqb, ne-eqb, leb-true, ltb-true, lt-ltb, le-ltb}
+use Rattle.laws.proofs.Cases.{by-order, and-left, and-right}
 use Rattle.values.specs.declared.Value.{Value}
 use Rattle.values.specs.declared.Value.the-variants.{Given, Missing}
 use Rattle.values.specs.declared.place.Offer.{Offer}
@@ -26,6 +28,11 @@ not-cheaper v w least price e f g = leb-true least price (rw (f, g) at e)
 no-block : (v : Value) → flexible v ≡ true → v ≡ Missing
 no-block (Given block) e = absurd (false≢true e)
 no-block Missing e = refl
+
+-- no offer follows itself
+not-itself : (o : Offer) → stepFollows o o ≡ false
+unfolding stepFollows
+not-itself o = rw (eq-eqb (o .resource) (o .resource) refl, ne-eqb (o .step) (o .step + 1) (λ e. omega arith))
 
 module _ (before o : Offer) where
   pub step-follows : stepFollows before o ≡ true → Follows before o
@@ -56,3 +63,12 @@ module _ (before o : Offer) where
     pub step-first : o .step ≡ 1 → stepHolds before o row ≡ true
     unfolding stepHolds
     step-first e = rw (eq-eqb (o .step) 1 e)
+
+    -- past step 1 it keeps them where it follows the row before, for which row 0, that has none, may stand itself
+    pub step-past-holds : (o .step ≡ 1 → ⊥) → (row ≡ 0 → before ≡ o) → stepHolds before o row ≡ stepFollows before o
+    unfolding stepHolds
+    step-past-holds past own =
+        rw (ne-eqb (o .step) 1 past)
+        (by-order row 0
+        (λ h. rw (le-ltb 0 row h) (sym (ap (λ (b : Offer). stepFollows b o) (own (omega arith)) ∙ not-itself o)))
+        (λ h. rw (lt-ltb 0 row h)))

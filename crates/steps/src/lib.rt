@@ -2,7 +2,7 @@
 use values::Value;
 use values::place::Offer;
 ghost use mathlib.Core.Path.{_≡_};
-ghost use Rattle.steps.specs.Steps.{notCheaper, flexible, stepFollows, stepHolds};
+ghost use Rattle.steps.specs.Steps.{notCheaper, flexible, stepFollows};
 
 // Whether a price does not fall from the one before it, where both are given.
 fn not_cheaper(before: Value, price: Value) -> bool
@@ -39,14 +39,4 @@ pub fn step_follows(before: Offer, o: Offer) -> bool
         & (o.step as u64 == before.step as u64 + 1)
         & not_cheaper(least, price)
         & is_flexible(block)
-}
-
-// Whether a row keeps the rules of steps. For row 0 it is the same whatever offer stands for the one before.
-pub fn step_holds(before: Offer, o: Offer, row: u32) -> bool
-    ensures { λ r. ⌜ r ≡ stepHolds before o row ⌝ }
-{
-    if o.step == 1 {
-        return true;
-    }
-    (0 < row) & step_follows(before, o)
 }

@@ -1,6 +1,6 @@
 -- What reading and testing the rows of a book yields.
 -- Assumes nothing.
-use Prim.Native.Nat.{ℕ, _+_, _≤_}
+use Prim.Native.Nat.{ℕ, _+_, _-_, _*_, _/_, _≤_}
 use mathlib.Core.Path.{_≡_}
 use mathlib.Core.Bool.{Bool}
 use mathlib.Core.List.{List}
@@ -9,9 +9,16 @@ use Rattle.values.specs.Contents.{offerAt}
 use Rattle.values.specs.declared.Verdict.{Verdict}
 use Rattle.values.specs.declared.Verdict.the-variants.{Passed, Refused}
 use Rattle.values.specs.declared.place.Offer.{Offer}
+use Rattle.layout.specs.Read.{rowOffer}
 use Rattle.limits.specs.Offers.{rowsFault}
 use Rattle.limits.specs.inner.Rows.{valuesFault}
 use Rattle.columns.specs.inner.Columns.{Columns, ColumnsRead}
+
+-- a row of a book, its own offer and the number of the row before it, which is 0 for row 0
+pub record RowAt (b : List ℕ) (edition first : ℕ) (o : Offer) (before row : ℕ) : Type 0 where
+  pub within : (first + row / 15) * 512 + 512 ≤ length b
+  pub own : o ≡ rowOffer b edition first row
+  pub behind : before ≡ row - 1
 
 -- how many rows are read before the tests of values end: all n, or those up to the refused one
 abbrev pub rowsTested : Verdict → ℕ → ℕ

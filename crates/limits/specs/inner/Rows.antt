@@ -3,7 +3,7 @@
 use Prim.Native.Nat.{ℕ, _-_}
 use mathlib.Core.Bool.{Bool, cond}
 use lib.Dec.{ltb}
-use Rattle.values.specs.Refusals.{repeatedResource, andThen, first}
+use Rattle.values.specs.Refusals.{repeatedResource, brokenSteps, unless, andThen, first}
 use Rattle.values.specs.declared.Verdict.{Verdict}
 use Rattle.values.specs.declared.Verdict.the-variants.{Passed, Refused}
 use Rattle.values.specs.declared.place.Offer.{Offer}
@@ -13,6 +13,11 @@ use Rattle.limits.specs.Offers.{offerFault, stepFault}
 -- 6, where prices are needed, 7 and 10 of a row, with the offer of the row before it
 unfoldable pub rowFault : Bool → ℕ → Offer → Offer → ℕ → Verdict
 rowFault pricesNeeded edition before o row = andThen (offerFault pricesNeeded edition o row) (stepFault before o row)
+
+-- the same of a row past step 1, told by whether it follows the row before it
+unfoldable pub pastFault : Bool → ℕ → Offer → Bool → ℕ → Verdict
+pastFault pricesNeeded edition o follows row =
+    andThen (offerFault pricesNeeded edition o row) (unless follows (brokenSteps row))
 
 -- the first row that has one of them
 unfoldable pub valuesFault : Bool → ℕ → (ℕ → Offer) → ℕ → Verdict

@@ -1,5 +1,5 @@
 -- `values_fault` finds the first fault by 6, 7 or 10, and reads the rows up to it into the columns. The loop's invariant: the
--- rows passed had no such fault, and stand in the columns.
+-- rows passed had no such fault, and stand in the columns, and the last of them is the row before the next.
 -- Assumes nothing.
 use mathlib.Core.Path.{_≡_, sym, ap₂, _∙_}
 use Prim.Native.Nat.{ℕ, _≤_, _-_}
@@ -19,17 +19,18 @@ use Rattle.book.proofs.rows.values_fault.Statement.{statement}
 use Rattle.book.proofs.rows.values_fault.Tie as tie
 
 abbrev Inv-loop : tie.InvT-loop
-Inv-loop book edition first n needed prices₀ quantities₀ leasts₀ resources₀ stamps₀ steps₀ row₀ prices quantities leasts resources stamps steps row =
+Inv-loop book edition first n needed prices₀ quantities₀ leasts₀ resources₀ stamps₀ steps₀ before₀ row₀ prices quantities leasts resources stamps steps before row =
     (row ≤ n)
+    × ((before ≡ row - 1)
     × ValuesRead needed edition (rowOffers book edition first n) row Passed
     (columnsOf prices₀ quantities₀ leasts₀ resources₀ stamps₀ steps₀)
-    (columnsOf prices quantities leasts resources stamps steps)
+    (columnsOf prices quantities leasts resources stamps steps))
 
 abbrev μ-loop : tie.MeasureT-loop
-μ-loop book edition first n needed prices₀ quantities₀ leasts₀ resources₀ stamps₀ steps₀ row₀ prices quantities leasts resources stamps steps row = n - row
+μ-loop book edition first n needed prices₀ quantities₀ leasts₀ resources₀ stamps₀ steps₀ before₀ row₀ prices quantities leasts resources stamps steps before row = n - row
 
 loop-holds : tie.Need-loop-holds Inv-loop μ-loop
-loop-holds c = (search needs, values-none _ _ _ _)
+loop-holds c = (search needs, (search needs, values-none _ _ _ _))
 
 cast-at : tie.Need-cast-at Inv-loop μ-loop
 cast-at c = search needs
@@ -61,13 +62,13 @@ mul-prices : tie.Need-mul-prices Inv-loop μ-loop
 mul-prices c = search needs
 
 slice-write-prices : tie.Need-slice-write-prices Inv-loop μ-loop
-slice-write-prices c = in-filling _ _ _ (c .before .before .before .before .loop .inv .1 .read .price) (omega arith)
+slice-write-prices c = in-filling _ _ _ (c .before .before .before .before .loop .inv .1 .1 .read .price) (omega arith)
 
 mul-quantities : tie.Need-mul-quantities Inv-loop μ-loop
 mul-quantities c = search needs
 
 slice-write-quantities : tie.Need-slice-write-quantities Inv-loop μ-loop
-slice-write-quantities c = in-filling _ _ _ (c .before .before .before .before .loop .inv .1 .read .quantity) (omega arith)
+slice-write-quantities c = in-filling _ _ _ (c .before .before .before .before .loop .inv .1 .1 .read .quantity) (omega arith)
 
 least-of-requires : tie.Need-least-of-requires Inv-loop μ-loop
 least-of-requires c κs = search needs
@@ -76,30 +77,37 @@ mul-leasts : tie.Need-mul-leasts Inv-loop μ-loop
 mul-leasts c = search needs
 
 slice-write-leasts : tie.Need-slice-write-leasts Inv-loop μ-loop
-slice-write-leasts c = in-filling _ _ _ (c .before .before .before .before .before .loop .inv .1 .read .least) (omega arith)
+slice-write-leasts c = in-filling _ _ _ (c .before .before .before .before .before .loop .inv .1 .1 .read .least) (omega arith)
 
 mul-resources : tie.Need-mul-resources Inv-loop μ-loop
 mul-resources c = search needs
 
 slice-write-resources : tie.Need-slice-write-resources Inv-loop μ-loop
-slice-write-resources c = in-filling _ _ _ (c .before .before .before .before .before .loop .inv .1 .read .resource) (omega arith)
+slice-write-resources c = in-filling _ _ _ (c .before .before .before .before .before .loop .inv .1 .1 .read .resource) (omega arith)
 
 mul-stamps : tie.Need-mul-stamps Inv-loop μ-loop
 mul-stamps c = search needs
 
 slice-write-stamps : tie.Need-slice-write-stamps Inv-loop μ-loop
-slice-write-stamps c = in-filling _ _ _ (c .before .before .before .before .before .loop .inv .1 .read .stamp) (omega arith)
+slice-write-stamps c = in-filling _ _ _ (c .before .before .before .before .before .loop .inv .1 .1 .read .stamp) (omega arith)
 
 mul-steps : tie.Need-mul-steps Inv-loop μ-loop
 mul-steps c = search needs
 
 slice-write-steps : tie.Need-slice-write-steps Inv-loop μ-loop
-slice-write-steps c = in-filling _ _ _ (c .before .before .before .before .before .loop .inv .1 .read .step) (omega arith)
+slice-write-steps c = in-filling _ _ _ (c .before .before .before .before .before .loop .inv .1 .1 .read .step) (omega arith)
 
 row-tested-requires : tie.Need-row-tested-requires Inv-loop μ-loop
 row-tested-requires c κs =
     let read = c .before .before .before .before in
-    entry (read .before) .pre .0 .within (read .before .loop .row) (read .loop-test .taken)
+    let at = read .before in
+    let row = at .loop .row in
+    let a = entry at .args in
+    record {
+      within = entry at .pre .0 .within row (read .loop-test .taken);
+      own = as-offer (c .before .before) ∙ offerAt-rowOffers (a .book .now) (a .edition) (a .first) (a .n) row (read .loop-test .taken);
+      behind = at .loop .inv .1 .0;
+    }
 
 -- and its fault is that of the definition
 as-fault : (c : tie.After-row-tested Inv-loop μ-loop) →
@@ -121,7 +129,7 @@ refused : tie.Need-returns Inv-loop μ-loop
 refused c =
     let tested = c .before .before .before in
     let at = tested .before .before .before .before .before .before in
-    values-refused _ _ _ _ (at .loop .inv .1) (as-offer (tested .before .before .before)) (tested .before .before .number-held .ensures)
+    values-refused _ _ _ _ (at .loop .inv .1 .1) (as-offer (tested .before .before .before)) (tested .before .before .number-held .ensures)
     (tested .before .least-of .ensures) _ _ _
     (tested .before .before .before .before .before .loop-test .taken)
     (sym (as-fault tested) ∙ c .before .number .given .1)
@@ -163,34 +171,37 @@ loop-again c =
     let tested = c .before .before in
     let at = tested .before .before .before .before .before .before in (
       search needs,
-      values-more _ _ _ _ (at .loop .inv .1) (as-offer (tested .before .before .before)) (tested .before .before .number-held .ensures)
-          (tested .before .least-of .ensures)
-          (sym (as-fault tested) ∙ c .enum-told .given .1),
+      (
+        search needs,
+        values-more _ _ _ _ (at .loop .inv .1 .1) (as-offer (tested .before .before .before)) (tested .before .before .number-held .ensures)
+            (tested .before .least-of .ensures)
+            (sym (as-fault tested) ∙ c .enum-told .given .1),
+      ),
     )
 
 same-length-7 : tie.Need-same-length-7 Inv-loop μ-loop
-same-length-7 c = length-filling _ _ _ (c .before .loop .inv .1 .read .price)
+same-length-7 c = length-filling _ _ _ (c .before .loop .inv .1 .1 .read .price)
 
 same-length-8 : tie.Need-same-length-8 Inv-loop μ-loop
-same-length-8 c = length-filling _ _ _ (c .before .loop .inv .1 .read .quantity)
+same-length-8 c = length-filling _ _ _ (c .before .loop .inv .1 .1 .read .quantity)
 
 same-length-9 : tie.Need-same-length-9 Inv-loop μ-loop
-same-length-9 c = length-filling _ _ _ (c .before .loop .inv .1 .read .least)
+same-length-9 c = length-filling _ _ _ (c .before .loop .inv .1 .1 .read .least)
 
 same-length-10 : tie.Need-same-length-10 Inv-loop μ-loop
-same-length-10 c = length-filling _ _ _ (c .before .loop .inv .1 .read .resource)
+same-length-10 c = length-filling _ _ _ (c .before .loop .inv .1 .1 .read .resource)
 
 same-length-11 : tie.Need-same-length-11 Inv-loop μ-loop
-same-length-11 c = length-filling _ _ _ (c .before .loop .inv .1 .read .stamp)
+same-length-11 c = length-filling _ _ _ (c .before .loop .inv .1 .1 .read .stamp)
 
 same-length-12 : tie.Need-same-length-12 Inv-loop μ-loop
-same-length-12 c = length-filling _ _ _ (c .before .loop .inv .1 .read .step)
+same-length-12 c = length-filling _ _ _ (c .before .loop .inv .1 .1 .read .step)
 
 returns-2 : tie.Need-returns-2 Inv-loop μ-loop
 returns-2 c =
     let at = c .before in
     let all : at .loop .row ≡ entry at .args .n = omega arith in
-    values-end (at .loop .inv .1) all
+    values-end (at .loop .inv .1 .1) all
 
 pub values-fault-spec : {M : Type 1} → statement M
 values-fault-spec =
