@@ -71,7 +71,7 @@ pub fn clear(bytes: &[u8], cleared_len: usize, committed_len: usize) -> Outcome 
 /// The first fault of soundness, if there is one.
 pub fn sound(bytes: &[u8]) -> Option<book::Fault> {
     match book::read(bytes) {
-        Ok(book) => limits::out_of_range(&book.parameters).or_else(|| limits::rows(&book.offers, false)),
+        Ok(book) => limits::out_of_range(&book.parameters).or_else(|| limits::rows(book.edition, &book.offers, false)),
         Err(fault) => Some(fault),
     }
 }
@@ -106,7 +106,7 @@ fn admitted(bytes: &[u8], cleared_len: usize, committed_len: usize) -> Result<bo
     let book = book::read(bytes)?;
     let fault = limits::missing(&book.parameters)
         .or_else(|| limits::out_of_range(&book.parameters))
-        .or_else(|| limits::rows(&book.offers, true))
+        .or_else(|| limits::rows(book.edition, &book.offers, true))
         .or_else(|| limits::buffers(book.offers.len(), cleared_len, committed_len));
     match fault {
         Some(fault) => Err(fault),
@@ -130,7 +130,7 @@ fn settled(book: &book::Book) -> Clearing {
 
 fn priced(offer: &book::Offer) -> Priced {
     let price = offer.price.expect("an admitted offer has a price");
-    Priced { price, quantity: offer.quantity, stamp: offer.stamp, resource: offer.resource }
+    Priced { price, quantity: offer.quantity, stamp: offer.stamp, resource: offer.resource, step: offer.step }
 }
 
 /// Commitment and make-whole of one offer. With no price nothing has cleared, so nothing is committed or paid.
