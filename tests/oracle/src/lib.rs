@@ -55,6 +55,7 @@ pub struct Clearing {
 #[derive(Clone, Debug, PartialEq, Eq)]
 pub struct Row {
     pub resource: u32,
+    pub step: u32,
     pub cleared: u32,
     pub committed: u32,
     pub make_whole: u64,
@@ -140,5 +141,5 @@ fn paid(offer: &book::Offer, cleared: u32, price: Option<u32>) -> Row {
         _ => cleared,
     };
     let make_whole = price.map_or(0, |price| u64::from(price) * u64::from(committed - cleared));
-    Row { resource: offer.resource, cleared, committed, make_whole }
+    Row { resource: offer.resource, step: offer.step, cleared, committed, make_whole }
 }

@@ -52,7 +52,8 @@ fn change_losers(rng: &mut Rng, price: u32, edition: u32, offers: &mut Vec<Offer
         _ if !losers.is_empty() => {
             let row = rng.pick(&losers);
             let Offer { resource, step, price: asked, .. } = offers[row];
-            let one = Offer { resource, step, ..offer(rng, offers, (asked.unwrap_or(price + 1), 1_000_000)) };
+            let least = asked.map_or(0, |asked| asked.min(1_000_000));
+            let one = Offer { resource, step, ..offer(rng, offers, (least, 1_000_000)) };
             offers[row] = Offer { block: one.block.filter(|_| step == 1), ..one };
         }
         _ => {}
@@ -67,7 +68,7 @@ fn add_step(rng: &mut Rng, price: u32, offers: &mut Vec<Offer>) {
     }
     let row = rng.pick(&last);
     let Offer { resource, step, price: asked, .. } = offers[row];
-    let least = asked.unwrap_or(0).max(price + 1);
+    let least = asked.unwrap_or(0).max(price + 1).min(1_000_000);
     let one = Offer { resource, step: step + 1, block: None, ..offer(rng, offers, (least, 1_000_000)) };
     offers.insert(row + 1, one);
 }

@@ -46,7 +46,7 @@ pub fn spoil(rng: &mut Rng, offers: &mut Vec<Offer>) {
     let any = rng.index(offers.len());
     let row = if past.is_empty() { any } else { rng.pick(&past) };
     let before = row.saturating_sub(1);
-    match rng.draw() % 12 {
+    match rng.draw() % 18 {
         0 => offers[any].step = rng.pick(&[0, 11, 255]),
         1 => offers[any].step = rng.between32(1, 10),
         2 => offers[row].step = rng.pick(&[1, offers[row].step + 1, offers[row].step.saturating_sub(1)]),
@@ -55,19 +55,20 @@ pub fn spoil(rng: &mut Rng, offers: &mut Vec<Offer>) {
         5 => drop(offers.remove(before)),
         6 => offers[row].price = offers[before].price.map(|price| price.saturating_sub(1)),
         7 => offers[before].price = offers[row].price.map(|price| (price + 1).min(1_000_000)),
-        8 => missing_between(rng, offers, row),
-        9 => offers[row].block = rng.pick(&[Some(1), Some(offers[row].quantity), Some(0)]),
-        10 => offers[row].resource = offers[any].resource,
+        8 => offers[row].resource = offers[any].resource,
+        9..=11 => missing_between(rng, offers),
+        12..=14 => offers[row].block = rng.pick(&[Some(1), Some(offers[row].quantity), Some(0)]),
         _ => repeat_a_run(rng, offers),
     }
 }
 
-/// A price missing, and the next step's lower than the one before it: prices 5, missing, 3 are no breach.
-fn missing_between(rng: &mut Rng, offers: &mut [Offer], row: usize) {
-    offers[row].price = None;
-    if row > 0 && !is_last(offers, row) {
-        let low = offers[row - 1].price.map_or(0, |price| price.saturating_sub(rng.between32(1, 100)));
-        offers[row + 1].price = Some(low);
+/// The last but one price of a run missing, and its last lower than the one before: prices 5, missing, 3 are no breach.
+fn missing_between(rng: &mut Rng, offers: &mut [Offer]) {
+    let last: Vec<usize> = (2..offers.len()).filter(|&row| offers[row].step > 2 && is_last(offers, row)).collect();
+    if !last.is_empty() {
+        let row = rng.pick(&last);
+        offers[row].price = offers[row - 2].price.map(|price| price.saturating_sub(rng.between32(1, 100)));
+        offers[row - 1].price = None;
     }
 }
 
