@@ -63,7 +63,8 @@ enum {
     OZP_OFFER_OUT_OF_RANGE = 7,     /* an offer value is out of range; the row */
     OZP_REPEATED_RESOURCE = 8,      /* a resource number stands in an earlier row; the row */
     OZP_SHORT_BUFFER = 9,           /* a result buffer has fewer entries than offers; 1 cleared, 2 committed */
-    OZP_BROKEN_STEPS = 10,          /* a row past step 1 breaks the rules of steps; the row */
+    OZP_BROKEN_STEPS = 10,          /* a resource's steps do not stand in neighbouring rows counted up from 1, their prices
+                                       fall, or a step past 1 has a minimum block; the row */
     OZP_TOO_MANY_ROWS = 19,         /* more than 600 rows; 0 */
     OZP_SHORT_ROOM = 20             /* the room lent is too small; 0 */
 };
@@ -149,10 +150,10 @@ ozp_contents ozp_read(const uint8_t *book, size_t book_bytes, ozp_row *rows, siz
  * writing what was read gives back the bytes of a sound book.
  *
  * On OZP_GIVEN the book stands at the start of the room, and what stands behind it is not touched; OZP_BOOK_BYTES are room for
- * every book. Refused by 3 at 0 for an edition that is neither 1 nor 2; by 19 at 0 for more than OZP_ROWS rows; by 5 at the lowest
- * field that is given out of range, as by ozp_curve, where E may reach 1,000,000 if C is missing; rows from 0, each by 7, where a
- * step is out of range if it is not 1 to OZP_STEPS, or in edition 1 not 1, by 8 and by 10; by 20 at 0 where the room is too small.
- * A refusal leaves the room as it was. */
+ * every book. Refused by 3 at 0 for an edition that is neither 1 nor 2; by 19 at 0 for more than OZP_ROWS rows; by 5 at the
+ * lowest field that is given out of range, as by ozp_curve, where E may reach 1,000,000 if C is missing; rows from 0, each by 7,
+ * 8 and 10, a step being out of range where it is not 1 to OZP_STEPS, or in edition 1 not 1; by 20 at 0 where the room is too
+ * small. A refusal leaves the room as it was. */
 ozp_text ozp_write(uint32_t edition, ozp_parameters parameters, const ozp_row *rows, size_t row_entries, uint8_t *room,
                    size_t room_bytes);
 

@@ -63,7 +63,7 @@ def printed(due, rows):
     if due.kind == 3:
         return f"refused {due.number} {due.place}\n"
     price = due.price if due.kind == 1 else "-"
-    lines = [f"cleared {due.total}", f"price {price}", *(" ".join(map(str, row)) for row in rows)]
+    lines = [f"cleared {due.total}", f"price {price}", *(" ".join(map(str, row[:4])) for row in rows)]
     return "\n".join([*lines, f"daily {due.daily}", f"year {due.year}", ""])
 
 
@@ -97,7 +97,7 @@ def called(due, book, filled):
         return "what is written back"
     if due.number == ozpinduru.Fault.SHORT_BUFFER:
         return None
-    rows = [(offer.resource, x, y, (price or 0) * (y - x)) for offer, x, y in zip(offers, *filled)]
+    rows = [(offer.resource, x, y, (price or 0) * (y - x), offer.step) for offer, x, y in zip(offers, *filled)]
     try:
         answer, columns = ozpinduru.clear(book), ozpinduru.clear_columns(book)
         in_all = (due.total, price, due.make_whole, due.daily, due.year)

@@ -27,7 +27,8 @@ pub enum Refusal {
     RepeatedResource { row: u32 },
     /// 9: a result buffer has fewer entries than the book has offers.
     ShortBuffer(Buffer),
-    /// 10: a row past step 1 breaks the rules of steps.
+    /// 10: a resource's steps do not stand in neighbouring rows counted up from 1, their prices fall, or a step past 1 has a
+    /// minimum block.
     BrokenSteps { row: u32 },
     /// 19: more than 600 rows.
     TooManyRows,

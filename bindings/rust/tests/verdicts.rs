@@ -52,7 +52,7 @@ fn every_refusal_of_a_book_occurs_and_has_its_sentence() {
     assert_eq!(sentences.len(), places.len());
     assert!(sentences.contains("refused 6 at row 0: an offer has no price"));
     assert!(sentences.contains("refused 4 at field 2 (cost of new entry): a parameter is missing"));
-    assert!(sentences.contains("refused 10 at row 1: a row past step 1 breaks the rules of steps"));
+    assert!(sentences.contains("refused 10 at row 1: a resource's steps do not stand in neighbouring rows counted up from 1, their prices fall, or a step past 1 has a minimum block"));
     assert!(sentences.contains("refused 2 at block 0: a block's check is wrong"));
 }
 
