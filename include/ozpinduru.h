@@ -29,12 +29,13 @@ extern "C" {
 #endif
 
 #define OZP_VERSION_MAJOR 0
-#define OZP_VERSION_MINOR 6
+#define OZP_VERSION_MINOR 7
 #define OZP_VERSION_PATCH 0
 #define OZP_VERSION (OZP_VERSION_MAJOR * 1000000 + OZP_VERSION_MINOR * 1000 + OZP_VERSION_PATCH)
 
 #define OZP_BOOK_BYTES 20992   /* the most bytes of a book */
 #define OZP_ROWS 600           /* the most rows of a book, which count from 0 */
+#define OZP_STEPS 10           /* the most steps of a resource, which count from 1 */
 #define OZP_REPORT_BYTES 32768 /* room for every text of ozp_report */
 #define OZP_WORDS_BYTES 256    /* room for every text of ozp_words */
 
@@ -62,6 +63,8 @@ enum {
     OZP_OFFER_OUT_OF_RANGE = 7,     /* an offer value is out of range; the row */
     OZP_REPEATED_RESOURCE = 8,      /* a resource number stands in an earlier row; the row */
     OZP_SHORT_BUFFER = 9,           /* a result buffer has fewer entries than offers; 1 cleared, 2 committed */
+    OZP_BROKEN_STEPS = 10,          /* a resource's steps do not stand in neighbouring rows counted up from 1, their prices
+                                       fall, or a step past 1 has a minimum block; the row */
     OZP_TOO_MANY_ROWS = 19,         /* more than 600 rows; 0 */
     OZP_SHORT_ROOM = 20             /* the room lent is too small; 0 */
 };
@@ -77,8 +80,10 @@ typedef struct { uint32_t kind, number; } ozp_value;
  * has: OZP_MISSING there. */
 typedef struct { uint32_t year; ozp_value cost, offset, outage, requirement, margin; } ozp_parameters;
 
-/* A row of a book. With no block the offer is flexible. A stamp may be any number, also all ones. */
-typedef struct { uint64_t stamp; uint32_t resource, seller, quantity; ozp_value price, block; } ozp_row;
+/* A row of a book. With no block the offer is flexible. A stamp may be any number, also all ones. In edition 1 the step is 1. In
+ * edition 2 a resource may sell in steps: they stand in neighbouring rows, counted up from 1 to at most OZP_STEPS, prices never
+ * falling from one to the next where both are given, and only step 1 may have a block. Each row is an offer for itself. */
+typedef struct { uint64_t stamp; uint32_t resource, seller, quantity; ozp_value price, block; uint32_t step; } ozp_row;
 
 /* What a book clears; amounts are of all rows, make_whole and daily by the day, year for the days of the delivery year.
  *
@@ -101,9 +106,9 @@ typedef struct { uint32_t kind, p1, p2, p3, q1, q2, q3, number, place; } ozp_cur
  * q3 - q2. Of two prices with equal cents the larger has the larger remainder times the other's divisor, in 64 bits. */
 typedef struct { uint32_t kind, cents, remainder, divisor, number, place; } ozp_curve_price;
 
-/* What a book says: OZP_GIVEN with rows and parameters, or OZP_REFUSED with number and place, when the kind of every
- * parameter is OZP_NONE. */
-typedef struct { uint32_t kind, rows, number, place; ozp_parameters parameters; } ozp_contents;
+/* What a book says: OZP_GIVEN with rows, edition (1 or 2) and parameters, or OZP_REFUSED with number and place, when the kind
+ * of every parameter is OZP_NONE. */
+typedef struct { uint32_t kind, rows, edition, number, place; ozp_parameters parameters; } ozp_contents;
 
 /* The comparison of two books. `book` is 1 or 2, `field` one of the parameters' fields, `row` a row of the first book and
  * `other` one of the second.
@@ -127,7 +132,8 @@ typedef struct { uint64_t bytes; uint32_t kind, number, place; } ozp_text;
  * On OZP_GIVEN and OZP_NONE entry i of `cleared` and of `committed` holds the cleared and the committed tenths of row i, for
  * every row of the book. The buffers may be longer than that: entries past the last row are not touched. On OZP_REFUSED both
  * buffers hold what they held. The refusal is the first in the order of the numbers: 1; 2 over all blocks, lowest first; 3
- * likewise; 4 and 5 by field; rows from 0, each for 6, 7, 8; 9, `cleared` before `committed`. */
+ * likewise; 4 and 5 by field; rows from 0, each for 6, 7, 8, if its step is 1, and 10; 9, `cleared` before `committed`. Spare
+ * tenths of a tie go to the larger remainder, then the earlier stamp, the lower resource and the lower step. */
 ozp_answer ozp_clear(const uint8_t *book, size_t book_bytes, uint32_t *cleared, size_t cleared_entries, uint32_t *committed,
                      size_t committed_entries);
 
@@ -139,15 +145,17 @@ ozp_answer ozp_quote(const uint8_t *book, size_t book_bytes);
  * entries; a refusal leaves the entries as they were. */
 ozp_contents ozp_read(const uint8_t *book, size_t book_bytes, ozp_row *rows, size_t row_entries);
 
-/* Writes the book that says these parameters and rows, in their order, into the room. What is missing is written as missing, and
- * a value out of range is not written. Reading what was written gives back the same parameters and rows; writing what was read
- * gives back the bytes of a sound book.
+/* Writes the book of an edition that says these parameters and rows, in their order, into the room. What is missing is written as
+ * missing, and a value out of range is not written. Reading what was written gives back the same edition, parameters and rows;
+ * writing what was read gives back the bytes of a sound book.
  *
  * On OZP_GIVEN the book stands at the start of the room, and what stands behind it is not touched; OZP_BOOK_BYTES are room for
- * every book. Refused by 19 at 0 for more than OZP_ROWS rows; by 5 at the lowest field that is given out of range, as by
- * ozp_curve, where E may reach 1,000,000 if C is missing; rows from 0, each by 7 and 8; by 20 at 0 where the room is too small. A
- * refusal leaves the room as it was. */
-ozp_text ozp_write(ozp_parameters parameters, const ozp_row *rows, size_t row_entries, uint8_t *room, size_t room_bytes);
+ * every book. Refused by 3 at 0 for an edition that is neither 1 nor 2; by 19 at 0 for more than OZP_ROWS rows; by 5 at the
+ * lowest field that is given out of range, as by ozp_curve, where E may reach 1,000,000 if C is missing; rows from 0, each by 7,
+ * 8 and 10, a step being out of range where it is not 1 to OZP_STEPS, or in edition 1 not 1; by 20 at 0 where the room is too
+ * small. A refusal leaves the room as it was. */
+ozp_text ozp_write(uint32_t edition, ozp_parameters parameters, const ozp_row *rows, size_t row_entries, uint8_t *room,
+                   size_t room_bytes);
 
 /* Whether losers matter between two books.
  *

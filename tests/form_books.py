@@ -1,7 +1,7 @@
 """Books that are refused for their form, by 1, 2 or 3: each one's name, its bytes, the refusal's number and its place."""
 import struct
 
-from write_book import book, changed, damaged, many, offer
+from write_book import book, changed, damaged, many, offer, steps
 
 NO_OFFERS, SIXTEEN = book([]), book(many(16))
 PLACE_0, PLACE_1 = 28, 60
@@ -28,8 +28,9 @@ def checks():
 def head_layouts():
     yield ("layout-letters-of-block-0", changed([], [(0, 0, b"RPMX")]), 3, 0)
     yield ("layout-edition-0", changed([], [(0, 4, b"\0\0")]), 3, 0)
-    yield ("layout-edition-2-is-set-aside", changed([], [(0, 4, b"\2\0")]), 3, 0)
+    yield ("layout-edition-3", changed([], [(0, 4, b"\3\0")]), 3, 0)
     yield ("layout-edition-257", changed([], [(0, 4, b"\1\1")]), 3, 0)
+    yield ("layout-edition-258", changed([], [(0, 4, b"\2\1")]), 3, 0)
     yield ("layout-count-601", changed(many(600), [(0, 24, struct.pack("<H", 601))]), 3, 0)
     yield ("layout-count-65535", changed([], [(0, 24, b"\xff\xff")]), 3, 0)
     yield ("layout-count-too-large-for-the-blocks", changed(many(15), [(0, 24, b"\x10\0")]), 3, 0)
@@ -61,9 +62,14 @@ def row_layouts():
     yield ("layout-unused-place-not-zero", changed([offer(1)], [(1, PLACE_1 + 12, b"\1")]), 3, 1)
     yield ("layout-last-byte-of-the-last-place-not-zero", changed([offer(1)], [(1, 507, b"\1")]), 3, 1)
     yield ("layout-mark-bit-2-of-a-place", changed([offer(1)], [(1, PLACE_0 + 28, b"\5")]), 3, 1)
-    yield ("layout-step-byte-29-is-set-aside", changed([offer(1)], [(1, PLACE_0 + 29, b"\1")]), 3, 1)
+    yield ("layout-step-1-in-edition-1", book([offer(1, step=1)]), 3, 1)
+    yield ("layout-step-2-in-edition-1", book([offer(1), offer(1, step=2)]), 3, 1)
+    yield ("layout-step-in-an-unused-place", changed(steps(1, 5), [(1, PLACE_1 + 29, b"\1")], edition=2), 3, 1)
     yield ("layout-event-byte-30-is-set-aside", changed([offer(1)], [(1, PLACE_0 + 30, b"\1")]), 3, 1)
     yield ("layout-byte-31-of-a-place-not-zero", changed([offer(1)], [(1, PLACE_0 + 31, b"\1")]), 3, 1)
+    for at in (30, 31):
+        yield (f"layout-byte-{at}-of-a-place-of-edition-2-not-zero",
+               changed(steps(1, 5), [(1, PLACE_0 + at, b"\1")], edition=2), 3, 1)
     yield ("layout-absent-price-not-zero-is-no-price-of-one", changed([offer(1, price=None)], [(1, PLACE_0 + 8, b"\1")]), 3, 1)
     yield ("layout-absent-block-not-zero", changed([offer(1)], [(1, PLACE_0 + 16, b"\1")]), 3, 1)
     yield ("layout-in-block-0-before-a-late-block", changed(many(16), [(2, 0, b"X"), (0, 27, b"\1")]), 3, 0)

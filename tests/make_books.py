@@ -8,6 +8,7 @@ What is expected stands beside each book, worked out by hand from the outline: t
 where that differs, and how many rows the reader hands back.
 """
 from form_books import checks, head_layouts, lengths, row_layouts
+from step_books import step_books
 from write_book import TESTS, THREE, book, keep, many, offer, program_files
 
 
@@ -125,7 +126,8 @@ def words(fault, passed, refused):
 
 def cases():
     """Each book's name, its bytes, and its line."""
-    for part in (accepted, margins, form, missing_parameters, parameter_ranges, missing_prices, offer_ranges, repeats):
+    for part in (accepted, margins, form, missing_parameters, parameter_ranges, missing_prices, offer_ranges, repeats,
+                 step_books):
         for name, data, clearing, sound, rows_read in part():
             verdict, soundness = words(clearing, "accepted", "refused"), words(sound, "sound", "unsound")
             yield name, data, f"{name}.book: {verdict}, {soundness}, rows {rows_read}\n"

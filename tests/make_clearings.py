@@ -9,6 +9,7 @@ The lines that are expected stand here beside each book, worked out by hand from
 The reference curve falls by 125 cents a tenth from 50,000 at 9,900 to 18,750 at 10,150, then by 62.5 to 0 at 10,450.
 """
 from margin_clearings import margin_cases
+from step_clearings import step_cases
 from write_book import TESTS, THREE, book, files_beside, keep, many, offer, one
 
 NINE_THOUSAND = "cleared 9000 / price 50000 / 21 9000 9000 0 / daily 450000000"
@@ -146,7 +147,8 @@ def refused_cases():
 
 def cases():
     """Each book's name, its bytes, and what is printed of it."""
-    for part in (reference_cases, curve_cases, margin_cases, tie_cases, block_cases, year_cases, large_cases, refused_cases):
+    for part in (reference_cases, curve_cases, margin_cases, tie_cases, block_cases, year_cases, large_cases, refused_cases,
+                 step_cases):
         for name, data, lines in part():
             yield name, data, f"{lines}\n".replace(" / ", "\n")
 

@@ -8,11 +8,13 @@ What is expected stands here beside each pair, worked out by hand from the outli
 are shared; `nothing clears`; `field` and its number; `rows` of the first and of the second book, - for none; `refused`, the
 book, the number and the place.
 """
-from write_book import TESTS, THREE, book, keep, offer
+from write_book import TESTS, THREE, book, keep, offer, steps
 
 A, B, C = THREE
 OVER = offer(14, 37_501, 500, stamp=4)
 GAP = offer(21, 10_000, 10_000)
+STEPS = [offer(11, 10_000, 9_900, stamp=1, step=1), offer(12, 37_500, 200, stamp=2, step=1),
+         offer(13, 37_500, 100, block=50, stamp=3, step=1)]
 
 
 def losers():
@@ -62,6 +64,20 @@ def others():
     yield "second-refused-where-nothing-clears", book([]), book([A, A]), "refused 2 8 1"
 
 
+def editions():
+    """The edition is no parameter, and a step is an offer."""
+    step, dearer = offer(13, 37_500, 10, stamp=9, step=2), offer(13, 37_501, 10, stamp=9, step=2)
+    yield "editions-1-and-2-of-the-same-offers", book(THREE), book(STEPS, edition=2), "applies 37500 3"
+    yield "step-above-the-price-added", book(THREE), book([*STEPS, dearer], edition=2), "applies 37500 3"
+    yield "step-above-the-price-taken-out", book([*STEPS, dearer], edition=2), book(STEPS, edition=2), "applies 37500 3"
+    yield "step-at-the-price-added", book(STEPS, edition=2), book([*STEPS, step], edition=2), "rows - 3"
+    yield "step-at-the-price-of-another-resource", book([*STEPS, step], edition=2), \
+        book([*STEPS, offer(14, 37_500, 10, stamp=9, step=1)], edition=2), "rows 3 3"
+    again = [*STEPS[:2], offer(12, 37_500, step=2), STEPS[1]]
+    yield "second-refused-for-a-repeated-step-1", book(THREE), book(again, edition=2), "refused 2 8 3"
+    yield "second-refused-for-a-broken-step", book(THREE), book([*STEPS, *steps(14, 1, 2)[1:]], edition=2), "refused 2 10 3"
+
+
 def pairs(home, cases):
     """The two books of each pair, with what is expected of them beside them."""
     made = {}
@@ -71,5 +87,6 @@ def pairs(home, cases):
 
 
 if __name__ == "__main__":
-    found = [(name, (first, second), f"{said}\n") for part in (losers, offers, others) for name, first, second, said in part()]
+    parts = losers, offers, others, editions
+    found = [(name, (first, second), f"{said}\n") for part in parts for name, first, second, said in part()]
     keep(pairs, TESTS / "comparisons", found)

@@ -30,9 +30,16 @@ def head(offers, edition=1, year=2026, cost=None, offset=None, outage=None, requ
     return bytearray(text.ljust(508, b"\0"))
 
 
-def offer(resource, price=0, quantity=100, block=None, stamp=1, seller=7):
+def offer(resource, price=0, quantity=100, block=None, stamp=1, seller=7, step=0):
+    """The 32 bytes of a place. Edition 2 has a step in it, and edition 1 a zero."""
     marks = (price is not None) + 2 * (block is not None)
-    return struct.pack("<IIIIIQB", resource, seller, number(price), quantity, number(block), stamp, marks).ljust(32, b"\0")
+    values = resource, seller, number(price), quantity, number(block), stamp, marks, step
+    return struct.pack("<IIIIIQBB", *values).ljust(32, b"\0")
+
+
+def steps(resource, *prices, **values):
+    """The steps of a resource at these prices, from 1 on."""
+    return [offer(resource, price, step=at + 1, **values) for at, price in enumerate(prices)]
 
 
 def rows(offers, block_number, letters=b"OFRS"):

@@ -35,11 +35,17 @@ static void expect_kept(ozp_contents c, unsigned number, unsigned place, const c
 {
     ozp_parameters p = c.parameters;
     expect(c.kind == OZP_REFUSED && c.number == number && c.place == place, name, "number and place of what is not read");
-    expect(c.rows == OZP_NO_VALUE && p.year == OZP_NO_VALUE, name, "what is not read has no values");
+    expect(c.rows == OZP_NO_VALUE && c.edition == OZP_NO_VALUE && p.year == OZP_NO_VALUE, name, "what is not read has no values");
     expect(is_value(p.cost, OZP_NONE) && is_value(p.offset, OZP_NONE) && is_value(p.outage, OZP_NONE)
                && is_value(p.requirement, OZP_NONE) && is_value(p.margin, OZP_NONE),
            name, "what is not read has no parameters");
     expect(untouched(0), name, "what is not read leaves the entries");
+}
+
+/* the step of a row: byte 29 of its place, and in edition 1 always 1 */
+static uint32_t step_of(const uint8_t *book, size_t row)
+{
+    return book[4] == 1 ? 1 : book[512 * (1 + row / 15) + 28 + 32 * (row % 15) + 29];
 }
 
 /* a book hands back so many rows, and needs as many entries */
@@ -49,10 +55,11 @@ void expect_rows(const uint8_t *book, size_t bytes, size_t count, const char *na
     ozp_parameters p = c.parameters;
     size_t i, wrong = 0;
     expect(c.kind == OZP_GIVEN && c.rows == count && c.number == OZP_NO_VALUE && c.place == OZP_NO_VALUE, name, "every row is read");
+    expect(c.edition == book[4] + 256u * book[5], name, "the edition is the book's");
     expect(either(p.cost) && either(p.offset) && either(p.outage) && either(p.requirement) && either(p.margin), name, "kinds of the parameters");
     for (i = 0; i < count; i++)
-        wrong += !either(rows[i].price) || !either(rows[i].block);
-    expect(wrong == 0 && untouched(count), name, "kinds of the rows, and the entries past them");
+        wrong += !either(rows[i].price) || !either(rows[i].block) || rows[i].step != step_of(book, i);
+    expect(wrong == 0 && untouched(count), name, "kinds and steps of the rows, and the entries past them");
     expect(read_into(book, bytes, count).kind == OZP_GIVEN, name, "as many entries as rows are enough");
     if (count > 0)
         expect_kept(read_into(book, bytes, count - 1), OZP_SHORT_BUFFER, 1, name);
@@ -88,4 +95,10 @@ void reading(const char *folder)
     expect(is_value(p.margin, OZP_MISSING), "missing-cost.book", "no margin");
     p = read_into(book, read_book(folder, "margin-0-in-2022.book", book), ENTRIES).parameters;
     expect(p.year == 2022 && has(p.margin, 0), "margin-0-in-2022.book", "a margin of 0 is a margin");
+    name = "steps-1-to-10-of-one-resource.book";
+    expect(read_into(book, read_book(folder, name, book), ENTRIES).edition == 2, name, "edition 2");
+    expect(rows[0].step == 1 && rows[9].step == 10 && rows[9].resource == 5 && has(rows[9].price, 9), name, "ten steps");
+    name = "step-255.book";
+    read_into(book, read_book(folder, name, book), ENTRIES);
+    expect(rows[1].step == 255, name, "a step is read as it stands");
 }

@@ -16,6 +16,7 @@ static size_t bytes;
 static struct buffers out;
 static ozp_row rows[ENTRIES];
 static ozp_parameters parameters;
+static uint32_t edition;
 static size_t count;
 static uint8_t room[OZP_REPORT_BYTES];
 
@@ -24,7 +25,7 @@ static void *call_clear(void *lent) { clear(book, bytes, &out, ENTRIES, ENTRIES)
 static void *call_quote(void *lent) { ozp_quote(book, bytes); return lent; }
 static void *call_compare(void *lent) { ozp_compare(book, bytes, book, bytes); return lent; }
 static void *call_read(void *lent) { ozp_read(book, bytes, rows, ENTRIES); return lent; }
-static void *call_write(void *lent) { ozp_write(parameters, rows, count, room, sizeof room); return lent; }
+static void *call_write(void *lent) { ozp_write(edition, parameters, rows, count, room, sizeof room); return lent; }
 static void *call_report(void *lent) { ozp_report(book, bytes, room, sizeof room); return lent; }
 static void *call_words(void *lent) { ozp_words(OZP_WRONG_LAYOUT, room, sizeof room); return lent; }
 static void *call_curve(void *lent) { ozp_curve(parameters); return lent; }
@@ -55,7 +56,7 @@ void stacks(const char *folder)
         {"curve", call_curve, 40}, {"price_at", call_price_at, 40}, {"report", call_report, 72}, {"words", call_words, 40},
         {"compare", call_compare, 56},
     };
-    static const char *const books[] = {"reference.book", "offers-600-length-20992.book"};
+    static const char *const books[] = {"reference.book", "offers-600-length-20992.book", "steps-600-in-60-runs-of-ten.book"};
     void *stack = NULL;
     size_t i, k, idle, most;
     expect(posix_memalign(&stack, 4096, STACK) == 0, "stack", "room for a stack");
@@ -67,6 +68,7 @@ void stacks(const char *folder)
             size_t now;
             bytes = read_book(folder, books[k], book);
             contents = ozp_read(book, bytes, rows, ENTRIES);
+            edition = contents.edition;
             parameters = contents.parameters;
             count = contents.rows;
             now = used(calls[i].call, (uint8_t *)stack);

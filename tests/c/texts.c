@@ -79,10 +79,12 @@ void texts(const char *folder)
     expect_words(OZP_OFFER_OUT_OF_RANGE, "an offer value is out of range; the row");
     expect_words(OZP_REPEATED_RESOURCE, "a resource number stands in an earlier row; the row");
     expect_words(OZP_SHORT_BUFFER, "a result buffer has fewer entries than offers; 1 cleared, 2 committed");
+    expect_words(OZP_BROKEN_STEPS, "a resource's steps do not stand in neighbouring rows counted up from 1, their prices fall, or a "
+                                   "step past 1 has a minimum block; the row");
     expect_words(OZP_TOO_MANY_ROWS, "more than 600 rows; 0");
     expect_words(OZP_SHORT_ROOM, "the room lent is too small; 0");
     expect_no_words(0);
-    expect_no_words(10);
+    expect_no_words(11);
     expect_no_words(18);
     expect_no_words(21);
     expect_no_words(UINT32_MAX);

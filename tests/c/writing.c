@@ -26,10 +26,15 @@ static int untouched(size_t from)
     return from == LONG;
 }
 
-static ozp_text write_into(ozp_parameters p, size_t count, size_t bytes)
+static ozp_text write_edition(uint32_t edition, ozp_parameters p, size_t count, size_t bytes)
 {
     memset(room, UNTOUCHED_BYTE, LONG);
-    return ozp_write(p, rows, count, room, bytes);
+    return ozp_write(edition, p, rows, count, room, bytes);
+}
+
+static ozp_text write_into(ozp_parameters p, size_t count, size_t bytes)
+{
+    return write_edition(1, p, count, bytes);
 }
 
 /* a refusal has no count and leaves the room */
@@ -53,14 +58,14 @@ void expect_written_back(const uint8_t *book, size_t bytes, const char *verdict,
     ozp_contents c = ozp_read(book, bytes, rows, MANY);
     unsigned number, place;
     if (sscanf(verdict, ", unsound %u %u", &number, &place) == 2) {
-        expect_unwritten(write_into(c.parameters, c.rows, LONG), number, place, name);
-        expect_unwritten(write_into(c.parameters, c.rows, 0), number, place, name);
+        expect_unwritten(write_edition(c.edition, c.parameters, c.rows, LONG), number, place, name);
+        expect_unwritten(write_edition(c.edition, c.parameters, c.rows, 0), number, place, name);
         return;
     }
-    expect_book(write_into(c.parameters, c.rows, LONG), book, bytes, name);
-    expect_book(write_into(c.parameters, c.rows, bytes), book, bytes, name);
-    expect_unwritten(write_into(c.parameters, c.rows, bytes - 1), OZP_SHORT_ROOM, 0, name);
-    expect_unwritten(ozp_write(c.parameters, rows, c.rows, NULL, 0), OZP_SHORT_ROOM, 0, name);
+    expect_book(write_edition(c.edition, c.parameters, c.rows, LONG), book, bytes, name);
+    expect_book(write_edition(c.edition, c.parameters, c.rows, bytes), book, bytes, name);
+    expect_unwritten(write_edition(c.edition, c.parameters, c.rows, bytes - 1), OZP_SHORT_ROOM, 0, name);
+    expect_unwritten(ozp_write(c.edition, c.parameters, rows, c.rows, NULL, 0), OZP_SHORT_ROOM, 0, name);
 }
 
 /* values that no sound book says, one at a time, in the parameters */
@@ -110,6 +115,39 @@ static void wrong_rows(ozp_parameters reference)
     rows[2] = kept;
 }
 
+/* steps that an edition cannot hold are refused and never cut; an edition that is neither is refused first */
+static void wrong_steps(ozp_parameters reference)
+{
+    static const uint32_t editions[] = {0, 3, 257, 258, 65537, UINT32_MAX}, steps[] = {0, 11, 255, 256, 257, 65537, UINT32_MAX};
+    ozp_parameters wrong = reference;
+    ozp_row kept = rows[1];
+    size_t i;
+    wrong.year = 0;
+    for (i = 0; i < LENGTH(editions); i++)
+        expect_unwritten(write_edition(editions[i], wrong, MANY, 0), OZP_WRONG_LAYOUT, 0, "neither edition");
+    for (i = 0; i < LENGTH(steps); i++) {
+        rows[1].step = steps[i];
+        expect_unwritten(write_edition(1, reference, 3, LONG), OZP_OFFER_OUT_OF_RANGE, 1, "step of edition 1");
+        expect_unwritten(write_edition(2, reference, 3, LONG), OZP_OFFER_OUT_OF_RANGE, 1, "step of edition 2");
+    }
+    rows[1].step = 2;
+    expect_unwritten(write_edition(1, reference, 3, LONG), OZP_OFFER_OUT_OF_RANGE, 1, "step 2 in edition 1");
+    expect_unwritten(write_edition(2, reference, 3, 0), OZP_BROKEN_STEPS, 1, "step 2 behind another resource");
+    rows[1].resource = rows[0].resource;
+    expect(write_edition(2, reference, 3, LONG).kind == OZP_GIVEN && room[4] == 2, "two steps", "a book of edition 2");
+    expect(room[540 + 29] == 1 && room[540 + 32 + 29] == 2 && room[540 + 64 + 29] == 1, "two steps", "byte 29 of each place");
+    rows[1].block = value(OZP_GIVEN, 1);
+    expect_unwritten(write_edition(2, reference, 3, LONG), OZP_BROKEN_STEPS, 1, "block on step 2");
+    rows[1].block.kind = OZP_MISSING;
+    rows[1].price.number = rows[0].price.number - 1;
+    expect_unwritten(write_edition(2, reference, 3, LONG), OZP_BROKEN_STEPS, 1, "price that falls");
+    rows[1].price.kind = OZP_MISSING;
+    expect(write_edition(2, reference, 3, LONG).kind == OZP_GIVEN, "two steps", "a missing price is not compared");
+    rows[1].step = 1;
+    expect_unwritten(write_edition(2, reference, 3, LONG), OZP_REPEATED_RESOURCE, 1, "step 1 twice");
+    rows[1] = kept;
+}
+
 /* more rows than a book may have come before any other fault, and the room comes last */
 static void order(ozp_parameters reference)
 {
@@ -139,12 +177,13 @@ void writing(const char *folder)
     ozp_text t;
     wrong_parameters(p);
     wrong_rows(p);
+    wrong_steps(p);
     rows[0].price = value(OZP_MISSING, 123);
     expect(write_into(p, 3, LONG).kind == OZP_GIVEN && room[540 + 8] == 0 && room[540 + 28] == 0, name, "the number of a missing price is not looked at");
     rows[0].price = value(OZP_GIVEN, 0);
     expect(write_into(p, 3, LONG).kind == OZP_GIVEN && room[540 + 8] == 0 && room[540 + 28] == 1, name, "a price of 0 is a price");
     memset(room, UNTOUCHED_BYTE, LONG);
-    t = ozp_write(p, NULL, 0, room, 512);
+    t = ozp_write(1, p, NULL, 0, room, 512);
     expect(t.kind == OZP_GIVEN && t.bytes == 512 && untouched(512), "no rows", "block 0 alone");
     order(p);
 }

@@ -2,7 +2,7 @@
 import random
 
 from compared import clearings
-from write_book import THREE, book, offer
+from write_book import THREE, book, offer, steps
 
 
 def _region(seed=7):
@@ -34,6 +34,9 @@ BOOKS = {
     "600-tied": SHIPPED["600-offers-tied-with-400-spares"],
     "600-at-their-most": SHIPPED["600-offers-with-every-value-at-its-most"],
     "600-of-a-region": _region(),
+    "steps-of-three-resources": book([*steps(5, 10_000, 20_000, 37_500, 45_000, quantity=2_500), *steps(6, 0, 37_500, quantity=900),
+                                      *steps(7, 30_000, 37_500, 900_000, quantity=800)], edition=2),
+    "600-in-runs-of-ten": SHIPPED["steps-600-in-60-runs-of-ten-of-distinct-prices"],
     "dearer-than-p1": SHIPPED["offers-dearer-than-p1"],
     "dear-ties": book([UNDER, offer(2, 60_000, 600), *(offer(number, 1_000_000, 900) for number in (3, 4, 5))]),
     "far-past-q3": book([UNDER, *(offer(number, 10_000 * number, 200_000, 150_000) for number in (2, 3, 4))]),

@@ -19,7 +19,8 @@ MARKS = """[...document.querySelectorAll('g.panel')].map(
 panel => [...panel.querySelectorAll('path, rect, circle, text')].map(mark => {
   const box = mark.getBoundingClientRect(), to = mark.getScreenCTM();
   return [mark.getAttribute('class'), box.left, box.top, box.right, box.bottom, mark.getAttribute('d'), [to.a, to.d, to.e, to.f],
-          mark.tagName == 'text' ? mark.textContent : '', mark.parentNode.getAttribute('data-resource')];
+          mark.tagName == 'text' ? mark.textContent : '', mark.parentNode.getAttribute('data-resource'),
+          mark.parentNode.getAttribute('data-step')];
 }))"""
 TEXTS = """[...document.querySelectorAll('text')].map(text => {
   const box = text.getBoundingClientRect();
@@ -33,9 +34,9 @@ def laid_out(browser):
     """The panels of the page as lists of marks."""
     for marks in browser.evaluate(MARKS):
         panel = []
-        for kinds, left, top, right, bottom, way, (across, down, x, y), words, resource in marks:
+        for kinds, left, top, right, bottom, way, (across, down, x, y), words, *named in marks:
             at = [(across * a + x, down * b + y) for a, b in corners(way or "")]
-            panel.append(Mark(frozenset((kinds or "").split()), left, top, right, bottom, at, words, resource))
+            panel.append(Mark(frozenset((kinds or "").split()), left, top, right, bottom, at, words, *named))
         yield panel
 
 

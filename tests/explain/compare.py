@@ -33,6 +33,12 @@ def largest_books():
     yield "no parameter", book([], cost=None, offset=None, outage=None, requirement=None)
     yield "the last row again", book(tied[:-1] + [offer(MOST - 598, 0, 1)], **high)
     yield "the last row with no price", book(tied[:-1] + [offer(MOST - 599, None, 1)], **high)
+    ten = [offer(MOST - row // 10, 958_904, 200_000 - row % 2, stamp=LATEST, step=1 + row % 10) for row in range(600)]
+    yield "60 resources of ten tied steps", book(ten, edition=2, **high)
+    yield "a step past every range", book(ten[:-1] + [offer(MOST, MOST, MOST, block=MOST, seller=MOST, step=255)], edition=2)
+    yield "no price past every range", book(ten[:-1] + [offer(MOST, None, MOST, block=MOST, stamp=LATEST, step=255)], edition=2)
+    yield "the last step is step 1 again", book(ten[:-1] + [offer(MOST - 59, 958_904, step=1)], edition=2)
+    yield "the last step is left out", book(ten[:-2] + ten[-1:], edition=2)
     yield "more than is read", bytes(70_000)
 
 

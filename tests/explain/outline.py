@@ -1,10 +1,11 @@
 """A book and its clearing, from the outline and apart from the library: what page.py writes about.
 
     form_fault(book)            the refusal by 1 to 3, or None
+    edition(book)               the edition that it states
     parameters(book)            year, [C, E, F, R, margin] with None where one is missing, number of offers
     by_margin(year)             whether the year's curve goes by the reserve margin
     offers_in(book, count)      the offers
-    fault(year, values, offers) the refusal by 4 to 8, or None
+    fault(year, values, offers) the refusal by 4 to 8 and 10, or None
     days(year)                  the days from 1 June of the year to 31 May of the next
     extra_day(year)             the calendar year of the 29 February between them, or None
     Market(year, values, offers) the curve, the total, the price, and what each row clears
@@ -13,16 +14,16 @@ import collections
 import datetime
 import struct
 
-Offer = collections.namedtuple("Offer", "resource seller price quantity block stamp")
+Offer = collections.namedtuple("Offer", "resource seller price quantity block stamp step")
 
 
-def layout_holds(k, block, offers):
-    """Whether offer block k is laid out as it has to be."""
+def layout_holds(k, block, offers, unused):
+    """Whether offer block k is laid out as it has to be, where a place has no use for its bytes from `unused` on."""
     here = min(15, offers - 15 * (k - 1))
     if block[:8] != b"OFRS" + struct.pack("<HH", k, here) or any(block[8:28]) or any(block[28 + 32 * here:508]):
         return False
     places = [block[28 + 32 * row:60 + 32 * row] for row in range(here)]
-    return all(place[28] < 4 and not any(place[29:])
+    return all(place[28] < 4 and not any(place[unused:])
                and (place[28] & 1 or not any(place[8:12])) and (place[28] & 2 or not any(place[16:20])) for place in places)
 
 
@@ -37,9 +38,15 @@ def form_fault(book):
     head, offers, marks = cut[0], struct.unpack_from("<H", cut[0], 24)[0], cut[0][26]
     absent = all(marks >> bit & 1 or not any(head[at:at + 4]) for bit, at in enumerate((8, 12, 16, 20, 28)))
     counted = offers <= 600 and len(cut) == 1 + (offers + 14) // 15
-    if head[:6] != b"RPMB\1\0" or not counted or marks > 31 or not absent or head[27] or any(head[32:508]):
+    known = head[:4] == b"RPMB" and edition(book) in (1, 2)
+    if not known or not counted or marks > 31 or not absent or head[27] or any(head[32:508]):
         return 3, 0
-    return next(((3, k) for k, block in enumerate(cut) if k and not layout_holds(k, block, offers)), None)
+    unused = 29 if edition(book) == 1 else 30
+    return next(((3, k) for k, block in enumerate(cut) if k and not layout_holds(k, block, offers, unused)), None)
+
+
+def edition(book):
+    return struct.unpack_from("<H", book, 4)[0]
 
 
 def parameters(book):
@@ -55,13 +62,19 @@ def by_margin(year):
 def offers_in(book, count):
     for row in range(count):
         at = 512 * (1 + row // 15) + 28 + 32 * (row % 15)
-        resource, seller, price, quantity, block, stamp, marks = struct.unpack_from("<IIIIIQB", book, at)
-        yield Offer(resource, seller, price if marks & 1 else None, quantity, block if marks & 2 else None, stamp)
+        resource, seller, price, quantity, block, stamp, marks, step = struct.unpack_from("<IIIIIQBB", book, at)
+        yield Offer(resource, seller, price if marks & 1 else None, quantity, block if marks & 2 else None, stamp,
+                    1 if edition(book) == 1 else step)
 
 
 def in_range(o):
     block = o.block is None or 1 <= o.block <= o.quantity
-    return o.resource and o.seller and o.price <= 1000000 and 1 <= o.quantity <= 200000 and block
+    return o.resource and o.seller and o.price <= 1000000 and 1 <= o.quantity <= 200000 and block and 1 <= o.step <= 10
+
+
+def follows(before, o):
+    """Whether an offer past step 1 stands behind the step before it, no cheaper and with no minimum block."""
+    return (before.resource, before.step) == (o.resource, o.step - 1) and before.price <= o.price and o.block is None
 
 
 def fault(year, values, offers):
@@ -79,8 +92,10 @@ def fault(year, values, offers):
             return 6, row
         if not in_range(o):
             return 7, row
-        if o.resource in seen:
+        if o.step == 1 and o.resource in seen:
             return 8, row
+        if o.step > 1 and (row == 0 or not follows(offers[row - 1], o)):
+            return 10, row
         seen.add(o.resource)
     return None
 
@@ -134,17 +149,21 @@ class Market:
         return sum(o.quantity for o in self.offers if o.price <= price)
 
     def level(self, price):
-        """What the level at a price receives and offers, and the resources that get a spare tenth."""
+        """What the level at a price receives and offers, and the steps of resources that get a spare tenth."""
         tied = [o for o in self.offers if o.price == price]
         offered = sum(o.quantity for o in tied)
         amount = max(0, min(self.x - self.supply(price - 1), offered))
-        order = sorted(tied, key=lambda o: (-(o.quantity * amount % offered), o.stamp, o.resource))
+        order = sorted(tied, key=lambda o: (-(o.quantity * amount % offered), o.stamp, o.resource, o.step))
         spare = amount - sum(o.quantity * amount // offered for o in tied)
-        return amount, offered, {o.resource for o in order[:spare]}
+        return amount, offered, {(o.resource, o.step) for o in order[:spare]}
 
     def cleared(self, o):
-        amount, offered, spared = self.levels[o.price]
-        return o.quantity * amount // offered + (o.resource in spared)
+        amount, offered, _ = self.levels[o.price]
+        return o.quantity * amount // offered + self.spared(o)
+
+    def spared(self, o):
+        """Whether an offer gets a spare tenth."""
+        return (o.resource, o.step) in self.levels[o.price][2]
 
     def committed(self, o):
         cleared = self.cleared(o)

@@ -2,12 +2,14 @@
 
     page(book)    the text for a book of bytes
 """
+import itertools
+
 import outline
 import refusals
 from words import dollars, megawatts, offer_lines, parts, price
 
 
-def stated(year, values, count):
+def stated(edition, year, values, count):
     c, e, f, r, margin = values
 
     def said(value, text):
@@ -20,8 +22,10 @@ def stated(year, values, count):
         return parts(value, 2, " percent (", " hundredths)")
     with_margin = said(margin, percent) if margin is not None or outline.by_margin(year) else \
         "none, and the year's curve goes without one"
-    yield f"""The book states
-  delivery year          {year}
+    yield "The book states\n"
+    if edition == 2:
+        yield "  edition                2, in which an offer is a step of its resource\n"
+    yield f"""  delivery year          {year}
   C, cost of new entry   {said(c, yearly)}
   E, revenue offset      {said(e, yearly)}
   F, outage rate EFORd   {said(f, percent)}
@@ -32,7 +36,7 @@ def stated(year, values, count):
 """
 
 
-def edition(m, year):
+def curve_edition(m, year):
     first, second, last = (f"R x {part} / {m.whole}" for part in m.parts)
     early = outline.by_margin(year)
     yield f"""The curve is that of delivery years {"2022 to 2025, by the margin" if early else "from 2026 on"}
@@ -77,11 +81,11 @@ def set_price(m):
            "  that is the curve price at X too, so both set the price\n\n")
 
 
-def row_lines(m, row, o):
-    amount, offered, spared = m.levels[o.price]
+def row_lines(m, edition, row, o):
+    amount, offered, _ = m.levels[o.price]
     cleared, committed = m.cleared(o), m.committed(o)
     mills = (m.price or 0) * (committed - cleared)
-    yield from offer_lines(row, o)
+    yield from offer_lines(edition, row, o)
     yield f"  its level receives {megawatts(amount)} of {megawatts(offered)}\n"
     if amount == 0:
         yield "  X leaves nothing for it, so nothing of the row clears\n"
@@ -90,7 +94,7 @@ def row_lines(m, row, o):
     else:
         down, remainder = divmod(o.quantity * amount, offered)
         yield f"  its share is {o.quantity} x {amount} / {offered} = {down}, remainder {remainder}\n"
-        yield f"  it gets {'one' if o.resource in spared else 'no'} spare tenth\n"
+        yield f"  it gets {'one' if m.spared(o) else 'no'} spare tenth\n"
     yield f"  cleared {megawatts(cleared)}, committed {megawatts(committed)}\n"
     if mills:
         yield f"  make-whole {dollars(mills)} a day\n    that is the price times what it commits past what cleared\n"
@@ -99,6 +103,14 @@ def row_lines(m, row, o):
     else:
         more = "more than cleared, and the price is zero" if cleared < committed else "what cleared"
         yield f"  make-whole 0: it commits {more}\n"
+
+
+def together(m, resource):
+    """What a resource's steps clear together, where it has several."""
+    steps = [o for o in m.offers if o.resource == resource]
+    if len(steps) > 1:
+        yield f"resource {resource}, steps 1 to {len(steps)}\n"
+        yield f"  cleared {megawatts(sum(map(m.cleared, steps)))} of {megawatts(sum(o.quantity for o in steps))}\n"
 
 
 def totals(m, year):
@@ -117,18 +129,20 @@ def pieces(book):
         yield from refusals.of_form(*wrong, len(book))
         return
     year, values, count = outline.parameters(book)
-    offers = list(outline.offers_in(book, count))
-    yield from stated(year, values, count)
+    edition, offers = outline.edition(book), list(outline.offers_in(book, count))
+    yield from stated(edition, year, values, count)
     wrong = outline.fault(year, values, offers)
     if wrong:
-        yield from refusals.of_values(*wrong, offers)
+        yield from refusals.of_values(*wrong, edition, offers)
         return
     market = outline.Market(year, values, offers)
-    yield from edition(market, year)
+    yield from curve_edition(market, year)
     yield from bought(market)
     yield from set_price(market)
-    for row, o in enumerate(offers):
-        yield from row_lines(market, row, o)
+    for resource, steps in itertools.groupby(enumerate(offers), lambda at: at[1].resource):
+        for row, o in steps:
+            yield from row_lines(market, edition, row, o)
+        yield from together(market, resource)
     yield from totals(market, year)
 
 

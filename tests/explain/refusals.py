@@ -21,19 +21,26 @@ def of_form(number, place, length):
         yield "  differ from the layout, or a value marked absent is not zero\n"
 
 
-def of_values(number, place, offers):
+def of_values(number, place, edition, offers):
     if number < 6:
         wrong = "missing; a missing value is not zero" if number == 4 else "out of range"
         yield f"refused {number} at field {place}\n  {FIELDS[place]} is {wrong}\n  its range is {RANGES[place]}\n"
         return
     o = offers[place]
     first = [other.resource for other in offers].index(o.resource)
-    words = ["no price; a missing price is not zero", "a value out of range", f"a resource number of an earlier row: row {first}"]
-    yield f"refused {number} at row {place}\n  row {place} (resource {o.resource}) has {words[number - 6]}\n"
+    words = {6: "no price; a missing price is not zero", 7: "a value out of range",
+             8: f"a resource number of an earlier row: row {first}", 10: "a step that breaks the rules of steps"}
+    yield f"refused {number} at row {place}\n  row {place} (resource {o.resource}) has {words[number]}\n"
+    if number == 10:
+        yield "    past step 1 the row before has to be the step before of the same resource,\n"
+        yield "    at no higher price, and only step 1 may have a minimum block\n"
     if number != 7:
-        yield from offer_lines(place, o)
+        for row in range(max(0, place - 1) if number == 10 else place, place + 1):
+            yield from offer_lines(edition, row, offers[row])
     else:
         block = "not given" if o.block is None else f"{megawatts(o.block)}, from 0.1 MW (1) to the quantity"
         yield f"    resource {o.resource}, from 1\n    seller {o.seller}, from 1\n"
         yield f"    price {price(o.price)}, from 0.00 to 10000.00 (1000000)\n"
         yield f"    quantity {megawatts(o.quantity)}, from 0.1 to 20000.0 MW (200000)\n    minimum block {block}\n"
+        if edition == 2:
+            yield f"    step {o.step}, from 1 to 10\n"

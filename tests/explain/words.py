@@ -17,7 +17,8 @@ def dollars(mills):
     return parts(mills, 3, " dollars (", " mills)")
 
 
-def offer_lines(row, o):
+def offer_lines(edition, row, o):
     at = ", no price entered" if o.price is None else " offered at zero" if o.price == 0 else " at " + price(o.price)
-    yield f"row {row}, resource {o.resource}: {megawatts(o.quantity)}{at}\n"
+    yield f"row {row}, resource {o.resource}: " if edition == 1 else f"row {row}, step {o.step} of resource {o.resource}\n  "
+    yield f"{megawatts(o.quantity)}{at}\n"
     yield f"  {'flexible' if o.block is None else 'minimum block ' + megawatts(o.block)}, stamp {o.stamp}\n"

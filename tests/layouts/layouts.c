@@ -19,7 +19,7 @@
 static void constants(void)
 {
     printf("constants %d %d %d %d %d", OZP_GIVEN, OZP_NONE, OZP_REFUSED, OZP_MISSING, OZP_DIFFERS);
-    printf(" %d %d %d %d", OZP_BOOK_BYTES, OZP_ROWS, OZP_REPORT_BYTES, OZP_WORDS_BYTES);
+    printf(" %d %d %d %d %d", OZP_BOOK_BYTES, OZP_ROWS, OZP_STEPS, OZP_REPORT_BYTES, OZP_WORDS_BYTES);
     printf(" %u %llu\n", (unsigned)OZP_NO_VALUE, (unsigned long long)OZP_NO_AMOUNT);
 }
 
@@ -41,7 +41,8 @@ static void values(void)
     FIELD(ozp_row, seller);
     FIELD(ozp_row, quantity);
     FIELD(ozp_row, price);
-    LAST(ozp_row, block);
+    FIELD(ozp_row, block);
+    LAST(ozp_row, step);
 }
 
 static void answers(void)
@@ -84,6 +85,7 @@ static void contents(void)
     STRUCT(ozp_contents);
     FIELD(ozp_contents, kind);
     FIELD(ozp_contents, rows);
+    FIELD(ozp_contents, edition);
     FIELD(ozp_contents, number);
     FIELD(ozp_contents, place);
     LAST(ozp_contents, parameters);

@@ -47,14 +47,15 @@ def lent(due, book, filled):
 
 def decoded(book, count):
     """The values of a book of so many rows, from its bytes, as the outline places them."""
-    year, *values, _, marks, margin = struct.unpack_from("<H4IHBxI", book, 6)
+    edition, year, *values, _, marks, margin = struct.unpack_from("<HH4IHBxI", book, 4)
     offers = []
     for n in range(count):
         at = 512 * (1 + n // 15) + 28 + 32 * (n % 15)
-        resource, seller, price, quantity, block, stamp, own = struct.unpack_from("<5IQB", book, at)
-        offers.append(ozpinduru.Offer(resource, seller, price if own & 1 else None, quantity, block if own & 2 else None, stamp))
+        resource, seller, price, quantity, block, stamp, own, step = struct.unpack_from("<5IQBB", book, at)
+        price, block = price if own & 1 else None, block if own & 2 else None
+        offers.append(ozpinduru.Offer(resource, seller, price, quantity, block, stamp, 1 if edition == 1 else step))
     given = [value if marks >> bit & 1 else None for bit, value in enumerate([*values, margin])]
-    return ozpinduru.Book(ozpinduru.Parameters(year, *given), offers)
+    return ozpinduru.Book(ozpinduru.Parameters(year, *given), offers, edition)
 
 
 def printed(due, rows):
@@ -62,7 +63,7 @@ def printed(due, rows):
     if due.kind == 3:
         return f"refused {due.number} {due.place}\n"
     price = due.price if due.kind == 1 else "-"
-    lines = [f"cleared {due.total}", f"price {price}", *(" ".join(map(str, row)) for row in rows)]
+    lines = [f"cleared {due.total}", f"price {price}", *(" ".join(map(str, row[:4])) for row in rows)]
     return "\n".join([*lines, f"daily {due.daily}", f"year {due.year}", ""])
 
 
@@ -82,9 +83,9 @@ def written_back(due, book):
     except ozpinduru.Refusal:
         return True
     try:
-        return ozpinduru.write(found.parameters, found.offers) == book
+        return ozpinduru.write(found.parameters, found.offers, found.edition) == book
     except ozpinduru.Refusal as refusal:
-        return refusal.number in (5, 7, 8) and due.kind == 3 and due.number != ozpinduru.Fault.SHORT_BUFFER
+        return refusal.number in (5, 7, 8, 10) and due.kind == 3 and due.number != ozpinduru.Fault.SHORT_BUFFER
 
 
 def called(due, book, filled):
@@ -96,7 +97,7 @@ def called(due, book, filled):
         return "what is written back"
     if due.number == ozpinduru.Fault.SHORT_BUFFER:
         return None
-    rows = [(offer.resource, x, y, (price or 0) * (y - x)) for offer, x, y in zip(offers, *filled)]
+    rows = [(offer.resource, x, y, (price or 0) * (y - x), offer.step) for offer, x, y in zip(offers, *filled)]
     try:
         answer, columns = ozpinduru.clear(book), ozpinduru.clear_columns(book)
         in_all = (due.total, price, due.make_whole, due.daily, due.year)

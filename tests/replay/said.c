@@ -22,7 +22,7 @@ static int is_written(const struct call *call, const ozp_contents *c, const ozp_
     int as_due;
     memset(book, 0x5E, bytes);
     memset(before, 0x5E, bytes);
-    *t = ozp_write(c->parameters, rows, c->rows, book, bytes);
+    *t = ozp_write(c->edition, c->parameters, rows, c->rows, book, bytes);
     as_due = memcmp(book, t->kind == OZP_GIVEN ? call->book : before, bytes) == 0;
     free(book);
     free(before);

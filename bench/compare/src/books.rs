@@ -1,7 +1,7 @@
 //! The books that are measured.
 
-use oracle::book::{Offer, Parameters};
-use oracle::make::{book, offer, reference};
+use oracle::book::{Book, Offer, Parameters};
+use oracle::make::{book, bytes, offer, reference};
 
 /// The first of a day's time stamps, in milliseconds.
 const DAY: u64 = 1_780_000_000_000;
@@ -22,6 +22,8 @@ pub fn cases() -> Vec<Case> {
         case("600 all tied", written(&tied()), 0.7),
         case("600 tied, equal quantities", written(&equal()), 0.7),
         case("600 tied, equal, stamps rising", written(&rising()), 0.7),
+        case("600 in 60 runs of ten, distinct prices", stepped(&in_runs(distinct())), 0.5),
+        case("600 in 60 runs of ten, all tied", stepped(&in_runs(all_alike())), 0.7),
         case("600, distinct prices, a year by the margin", by_margin(&distinct()), 0.5),
         case("600, the last row repeats a resource", written(&last_repeats()), 1.0),
         case("600, resources equal in their low 16 bits", written(&low_halves_equal()), 1.0),
@@ -70,6 +72,11 @@ fn by_margin(offers: &[Offer]) -> Vec<u8> {
     book(&Parameters { year: 2024, margin: Some(1_500), ..reference() }, offers)
 }
 
+/// The book of edition 2 that has these steps.
+pub fn stepped(offers: &[Offer]) -> Vec<u8> {
+    bytes(&Book { edition: 2, parameters: reference(), offers: offers.to_vec() })
+}
+
 /// Six hundred offers in no order of price, stamp or resource, each with a block. With the reference parameters their sum is
 /// 11,700, so that most clear whole, one in part and some not at all.
 pub fn distinct() -> Vec<Offer> {
@@ -105,6 +112,24 @@ fn equal() -> Vec<Offer> {
 /// The same with the stamps in the order of the rows, which a sort finds in order already.
 fn rising() -> Vec<Offer> {
     (DAY..).zip(equal()).map(|(stamp, offer)| Offer { stamp, ..offer }).collect()
+}
+
+/// The same with one stamp: remainders and stamps are equal, and the spare tenths go by the resource and then by the step.
+fn all_alike() -> Vec<Offer> {
+    equal().into_iter().map(|offer| Offer { stamp: DAY, ..offer }).collect()
+}
+
+/// Ten offers at a time as the steps of one resource, by price; only the first keeps its block.
+pub fn in_runs(mut offers: Vec<Offer>) -> Vec<Offer> {
+    for run in offers.chunks_mut(10) {
+        run.sort_by_key(|offer| offer.price);
+        let resource = run[0].resource;
+        for (offer, step) in run.iter_mut().zip(1..) {
+            let block = offer.block.filter(|_| step == 1);
+            *offer = Offer { resource, step, block, ..offer.clone() };
+        }
+    }
+    offers
 }
 
 pub fn last_repeats() -> Vec<Offer> {

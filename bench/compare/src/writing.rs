@@ -1,6 +1,6 @@
 //! Books written, and read and written back.
 
-use crate::books::{distinct, last_repeats};
+use crate::books::{distinct, in_runs, last_repeats, stepped};
 use crate::timing::best;
 use crate::{done, line};
 use oracle::book::Offer;
@@ -18,9 +18,16 @@ struct Case {
 
 pub fn compare() {
     let case = |name, offers: &[Offer], room, target| Case { name, bytes: book(&reference(), offers), room, target };
+    let runs = Case {
+        name: "600 rows in 60 runs of ten written",
+        bytes: stepped(&in_runs(distinct())),
+        room: MOST_BYTES,
+        target: 0.7,
+    };
     let few = &distinct()[..15];
     let cases = [
         case("600 rows written", &distinct(), MOST_BYTES, 0.7),
+        runs,
         case("600 rows, the last repeats a resource", &last_repeats(), MOST_BYTES, 1.0),
         case("600 rows, a byte of room too few", &distinct(), MOST_BYTES - 1, 1.0),
         case("15 rows written", few, MOST_BYTES, 1.0),
@@ -36,11 +43,12 @@ fn written(case: &Case) {
     let ours = read(&case.bytes).expect("a book");
     let theirs = plain::read(&case.bytes).expect("a book");
     let [a, b, c] = &mut [(); 3].map(|()| vec![7; case.room]);
-    let due = write_into(&ours.parameters, &ours.offers, a).map_err(|refusal| (refusal.number(), refusal.place()));
+    let due =
+        write_into(ours.edition, &ours.parameters, &ours.offers, a).map_err(|refusal| (refusal.number(), refusal.place()));
     assert_eq!([plain::write(&theirs, b), plain::write_tuned(&theirs, c)], [due, due], "{}", case.name);
     assert!(a == b && b == c, "{}", case.name);
     let times = best([
-        &mut || done(write_into(black_box(&ours.parameters), black_box(&ours.offers), a)),
+        &mut || done(write_into(black_box(ours.edition), black_box(&ours.parameters), black_box(&ours.offers), a)),
         &mut || done(plain::write(black_box(&theirs), b)),
         &mut || done(plain::write_tuned(black_box(&theirs), c)),
     ]);
@@ -51,7 +59,8 @@ fn written(case: &Case) {
 fn back(case: &Case) {
     let book = &case.bytes;
     let [a, b, c] = &mut [[0; MOST_BYTES]; 3];
-    let again = |room: &mut [u8]| read(black_box(book)).and_then(|book| write_into(&book.parameters, &book.offers, room));
+    let again =
+        |room: &mut [u8]| read(black_box(book)).and_then(|book| write_into(book.edition, &book.parameters, &book.offers, room));
     let times = best([
         &mut || done(again(a)),
         &mut || done(plain::read(black_box(book)).and_then(|contents| plain::write(&contents, b))),

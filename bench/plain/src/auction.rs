@@ -51,7 +51,8 @@ impl Auction {
         }
     }
 
-    /// Proportional parts rounded down, and the spare tenths to the largest remainders, earliest stamps, lowest resources.
+    /// Proportional parts rounded down, and the spare tenths to the largest remainders, earliest stamps, lowest resources, and
+    /// lowest steps, which stand in the order of their rows.
     fn share<M: Manner>(&self, offers: &[Offer], cleared: &mut [u32]) {
         let tied = &self.stack[self.full..self.tied];
         let mut turns = Vec::with_capacity(tied.len());

@@ -18,7 +18,8 @@ pub fn sums(block: &[u8; BLOCK]) -> (u16, u16) {
 
 pub fn head_laid_out(head: &[u8; BLOCK]) -> bool {
     let marks = head[26];
-    head.starts_with(b"RPMB\x01\x00")
+    head.starts_with(b"RPMB")
+        && [1, 2].contains(&u16_at(head, 4))
         && marks < 32
         && [8, 12, 16, 20, 28].iter().enumerate().all(|(bit, &at)| marks >> bit & 1 == 1 || u32_at(head, at) == 0)
         && head[27] == 0

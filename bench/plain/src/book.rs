@@ -20,9 +20,11 @@ pub struct Offer {
     pub block: u32,
     pub stamp: u64,
     pub marks: u8,
+    pub step: u8,
 }
 
 pub struct Book {
+    pub edition: u16,
     pub parameters: Parameters,
     pub offers: Vec<Offer>,
 }
@@ -43,15 +45,16 @@ impl Book {
         if !head_laid_out(head) || count.div_ceil(PLACES) != offer_blocks.len() {
             return Err((3, 0));
         }
+        let edition = u16_at(head, 4);
         let mut offers = Vec::with_capacity(count);
         for (at, block) in offer_blocks.iter().enumerate() {
             let used = (count - PLACES * at).min(PLACES);
-            read_offers(block, at + 1, used, &mut offers).ok_or((3, at as u32 + 1))?;
+            read_offers(block, at + 1, used, edition, &mut offers).ok_or((3, at as u32 + 1))?;
         }
-        Ok(Book { parameters: Parameters::read(head), offers })
+        Ok(Book { edition, parameters: Parameters::read(head), offers })
     }
 
-    /// Refusals 6, 7 and 8.
+    /// Refusals 6, 7, 8 and 10. A row past step 1 that passes 10 has the resource of the row before, which is in the set.
     pub fn check_offers<M: Manner>(&self) -> Result<(), Fault> {
         let mut seen = HashSet::with_capacity_and_hasher(self.offers.len(), M::Hashing::default());
         for (row, offer) in self.offers.iter().enumerate() {
@@ -61,8 +64,12 @@ impl Book {
             if !offer.in_range() {
                 return Err((7, row as u32));
             }
-            if !seen.insert(offer.resource) {
-                return Err((8, row as u32));
+            if offer.step == 1 {
+                if !seen.insert(offer.resource) {
+                    return Err((8, row as u32));
+                }
+            } else if row == 0 || !offer.follows(&self.offers[row - 1]) {
+                return Err((10, row as u32));
             }
         }
         Ok(())
@@ -70,7 +77,7 @@ impl Book {
 }
 
 impl Offer {
-    fn read(place: &[u8; PLACE]) -> Offer {
+    fn read(place: &[u8; PLACE], edition: u16) -> Offer {
         Offer {
             resource: u32_at(place, 0),
             seller: u32_at(place, 4),
@@ -79,6 +86,7 @@ impl Offer {
             block: u32_at(place, 16),
             stamp: u64::from_le_bytes(place[20..28].try_into().unwrap()),
             marks: place[28],
+            step: if edition == 1 { 1 } else { place[29] },
         }
     }
 
@@ -89,22 +97,30 @@ impl Offer {
             && (1..=200_000).contains(&self.quantity)
             && self.block <= self.quantity
             && (self.marks & 2 == 0 || self.block != 0)
+            && (1..=10).contains(&self.step)
+    }
+
+    /// Whether a row past step 1, of which as of the row before the price is given, keeps the step rules.
+    fn follows(&self, before: &Offer) -> bool {
+        before.resource == self.resource && before.step + 1 == self.step && before.price <= self.price && self.block == 0
     }
 }
 
 /// Adds a block's offers to the list, if the block is laid out as it should be.
-fn read_offers(block: &[u8; BLOCK], number: usize, used: usize, offers: &mut Vec<Offer>) -> Option<()> {
+fn read_offers(block: &[u8; BLOCK], number: usize, used: usize, edition: u16, offers: &mut Vec<Offer>) -> Option<()> {
     let (places, _) = block[28..508].as_chunks::<PLACE>();
     let (places, unused) = places.split_at(used);
     let opens = block.starts_with(b"OFRS") && u16_at(block, 4) == number as u16 && u16_at(block, 6) == used as u16;
     if !opens || !zero(&block[8..28]) || !zero(unused.as_flattened()) {
         return None;
     }
+    // Edition 2 has any step in the second of the last four bytes.
+    let told = if edition == 1 { u32::MAX } else { !0xFF00 };
     for place in places {
-        let offer = Offer::read(place);
+        let offer = Offer::read(place, edition);
         let absent_price = offer.marks & 1 == 0 && offer.price != 0;
         let absent_block = offer.marks & 2 == 0 && offer.block != 0;
-        if u32_at(place, 28) > 3 || absent_price || absent_block {
+        if u32_at(place, 28) & told > 3 || absent_price || absent_block {
             return None;
         }
         offers.push(offer);

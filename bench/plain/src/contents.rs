@@ -6,9 +6,10 @@ use crate::manner::Manner;
 use crate::Fault;
 use std::collections::HashSet;
 
-/// The year, then C, E, F, R and the reserve margin in `values`, and the rows.
+/// The edition, the year, then C, E, F, R and the reserve margin in `values`, and the rows.
 #[derive(Clone, Debug, PartialEq, Eq)]
 pub struct Contents {
+    pub edition: u32,
     pub year: u32,
     pub values: [Option<u32>; 5],
     pub rows: Vec<Row>,
@@ -22,6 +23,7 @@ pub struct Row {
     pub quantity: u32,
     pub block: Option<u32>,
     pub stamp: u64,
+    pub step: u32,
 }
 
 /// Where the values stand in block 0.
@@ -30,7 +32,7 @@ const VALUES_AT: [usize; 5] = [8, 12, 16, 20, 28];
 impl Contents {
     /// Refusals 1, 2 and 3.
     pub fn read(bytes: &[u8]) -> Result<Contents, Fault> {
-        let offers = Book::read(bytes)?.offers;
+        let Book { edition, offers, .. } = Book::read(bytes)?;
         let value = |bit: usize| (bytes[26] >> bit & 1 == 1).then(|| u32_at(bytes, VALUES_AT[bit]));
         let rows = offers.iter().map(|offer| Row {
             resource: offer.resource,
@@ -39,12 +41,18 @@ impl Contents {
             quantity: offer.quantity,
             block: (offer.marks & 2 == 2).then_some(offer.block),
             stamp: offer.stamp,
+            step: offer.step.into(),
         });
-        Ok(Contents { year: u16_at(bytes, 6).into(), values: [0, 1, 2, 3, 4].map(value), rows: rows.collect() })
+        let (edition, year) = (edition.into(), u16_at(bytes, 6).into());
+        Ok(Contents { edition, year, values: [0, 1, 2, 3, 4].map(value), rows: rows.collect() })
     }
 
-    /// Writes the book into the room and returns how many bytes it has; refusals 19, 5, 7, 8 and 20 leave the room.
+    /// Writes the book into the room and returns how many bytes it has; refusals 3, 19, 5, 7, 8, 10 and 20 leave the
+    /// room.
     pub fn write<M: Manner>(&self, room: &mut [u8]) -> Result<usize, Fault> {
+        if ![1, 2].contains(&self.edition) {
+            return Err((3, 0));
+        }
         if self.rows.len() > MOST_OFFERS {
             return Err((19, 0));
         }
@@ -55,7 +63,7 @@ impl Contents {
         let (blocks, _) = book.as_chunks_mut::<BLOCK>();
         self.write_head(&mut blocks[0]);
         for ((block, rows), number) in blocks[1..].iter_mut().zip(self.rows.chunks(PLACES)).zip(1..) {
-            write_rows(block, number, rows);
+            write_rows(block, number, rows, self.edition);
         }
         Ok(bytes)
     }
@@ -82,15 +90,20 @@ impl Contents {
         Err((5, field))
     }
 
-    /// Refusals 7 and 8.
+    /// Refusals 7, 8 and 10.
     fn check_rows<M: Manner>(&self) -> Result<(), Fault> {
         let mut seen = HashSet::with_capacity_and_hasher(self.rows.len(), M::Hashing::default());
-        for (row, at) in self.rows.iter().zip(0..) {
-            if !row.in_range() {
-                return Err((7, at));
+        let most = if self.edition == 1 { 1 } else { 10 };
+        for (at, row) in self.rows.iter().enumerate() {
+            if !row.in_range() || !(1..=most).contains(&row.step) {
+                return Err((7, at as u32));
             }
-            if !seen.insert(row.resource) {
-                return Err((8, at));
+            if row.step == 1 {
+                if !seen.insert(row.resource) {
+                    return Err((8, at as u32));
+                }
+            } else if at == 0 || !row.follows(&self.rows[at - 1]) {
+                return Err((10, at as u32));
             }
         }
         Ok(())
@@ -98,7 +111,8 @@ impl Contents {
 
     fn write_head(&self, block: &mut [u8; BLOCK]) {
         block.fill(0);
-        block[..6].copy_from_slice(b"RPMB\x01\x00");
+        block[..4].copy_from_slice(b"RPMB");
+        block[4..6].copy_from_slice(&(self.edition as u16).to_le_bytes());
         block[6..8].copy_from_slice(&(self.year as u16).to_le_bytes());
         block[24..26].copy_from_slice(&(self.rows.len() as u16).to_le_bytes());
         for (bit, (value, at)) in self.values.into_iter().zip(VALUES_AT).enumerate() {
@@ -118,7 +132,13 @@ impl Row {
             && self.block.is_none_or(|block| (1..=self.quantity).contains(&block))
     }
 
-    fn write(&self, place: &mut [u8; PLACE]) {
+    /// Whether a row past step 1 keeps the step rules: prices are compared where both are given.
+    fn follows(&self, before: &Row) -> bool {
+        let falls = before.price.zip(self.price).is_some_and(|(before, price)| price < before);
+        before.resource == self.resource && before.step + 1 == self.step && !falls && self.block.is_none()
+    }
+
+    fn write(&self, place: &mut [u8; PLACE], edition: u32) {
         place[..4].copy_from_slice(&self.resource.to_le_bytes());
         place[4..8].copy_from_slice(&self.seller.to_le_bytes());
         place[8..12].copy_from_slice(&self.price.unwrap_or(0).to_le_bytes());
@@ -126,18 +146,19 @@ impl Row {
         place[16..20].copy_from_slice(&self.block.unwrap_or(0).to_le_bytes());
         place[20..28].copy_from_slice(&self.stamp.to_le_bytes());
         let marks = u32::from(self.price.is_some()) + 2 * u32::from(self.block.is_some());
-        place[28..].copy_from_slice(&marks.to_le_bytes());
+        let step = if edition == 1 { 0 } else { self.step };
+        place[28..].copy_from_slice(&(marks + 256 * step).to_le_bytes());
     }
 }
 
-fn write_rows(block: &mut [u8; BLOCK], number: u16, rows: &[Row]) {
+fn write_rows(block: &mut [u8; BLOCK], number: u16, rows: &[Row], edition: u32) {
     block[..4].copy_from_slice(b"OFRS");
     block[4..6].copy_from_slice(&number.to_le_bytes());
     block[6..8].copy_from_slice(&(rows.len() as u16).to_le_bytes());
     block[8..28].fill(0);
     let (places, _) = block[28..508].as_chunks_mut::<PLACE>();
     let (used, unused) = places.split_at_mut(rows.len());
-    used.iter_mut().zip(rows).for_each(|(place, row)| row.write(place));
+    used.iter_mut().zip(rows).for_each(|(place, row)| row.write(place, edition));
     unused.as_flattened_mut().fill(0);
     seal(block);
 }

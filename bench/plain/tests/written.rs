@@ -1,27 +1,28 @@
 //! The same books as the oracle's, and the same room, from 20,000 random contents; and what is read of them.
 
-use oracle::book::{Offer, Parameters};
+use oracle::book::{Book, Offer};
 use oracle::random::contents::contents;
 use oracle::random::Rng;
 use plain::{read, write, write_tuned, Contents, Row};
 
-fn said(p: &Parameters, offers: &[Offer]) -> Contents {
+fn said(book: &Book) -> Contents {
     let row = |offer: &Offer| {
-        let &Offer { resource, seller, price, quantity, block, stamp } = offer;
-        Row { resource, seller, price, quantity, block, stamp }
+        let &Offer { resource, seller, price, quantity, block, stamp, step } = offer;
+        Row { resource, seller, price, quantity, block, stamp, step }
     };
+    let p = &book.parameters;
     let values = [p.cost, p.offset, p.outage, p.requirement, p.margin];
-    Contents { year: p.year, values, rows: offers.iter().map(row).collect() }
+    Contents { edition: book.edition, year: p.year, values, rows: book.offers.iter().map(row).collect() }
 }
 
 #[test]
 fn random_contents() {
     let mut rng = Rng::new(5);
     for turn in 0..20_000 {
-        let (parameters, offers) = contents(&mut rng);
-        let contents = said(&parameters, &offers);
+        let book = contents(&mut rng);
+        let contents = said(&book);
         let length = rng.pick(&[0, 512, 1_024, 20_991, 20_992, 20_992, 20_992, 30_000]);
-        let due = oracle::write(&parameters, &offers, length);
+        let due = oracle::write(&book, length);
         let mut kept = vec![0xA5; length];
         if let Ok(book) = &due {
             kept[..book.len()].copy_from_slice(book);

@@ -13,7 +13,7 @@ from ._refusal import Fault, Refusal, report, version, words
 from ._writing import write
 from .picture import chart
 
-__version__ = "0.6.0"
+__version__ = "0.7.0"
 __all__ = [
     "Book", "Clearing", "Columns", "Comparison", "Curve", "ExactPrice", "Fault", "Offer", "Parameters", "Quote", "Refusal",
     "RefusedBook", "Row",

@@ -26,25 +26,29 @@ class Parameters:
 
 @dataclass(frozen=True)
 class Offer:
-    """A row of a book. `price` is None where it is missing, `block` where the offer is flexible."""
+    """A row of a book. `price` is None where it is missing, `block` where the offer is flexible. A book of edition 1 has step 1
+    throughout. In one of edition 2 a resource may have up to ten steps, in neighbouring rows counted up from 1: prices never
+    fall from one to the next, and only step 1 may have a block."""
     resource: int
     seller: int
     price: Optional[int]
     quantity: int
     block: Optional[int]
     stamp: int
+    step: int = 1
 
 
 @dataclass(frozen=True)
 class Book:
-    """The parameters of a book and its offers, row by row."""
+    """The parameters of a book, its offers, row by row, and its edition, 1 or 2."""
     parameters: Parameters
     offers: list[Offer]
+    edition: int = 1
 
 
-# stamp, resource, seller, quantity, kind and number of the price, kind and number of the block
-ROW = struct.Struct("<Q3I2I2I4x")
-_ROW_WORDS, _RESOURCE = ROW.size // 4, _library.Row.resource.offset // 4
+# stamp, resource, seller, quantity, kind and number of the price, kind and number of the block, step
+ROW = struct.Struct("<Q3I2I2II")
+_ROW_WORDS, _RESOURCE, _STEP = ROW.size // 4, _library.Row.resource.offset // 4, _library.Row.step.offset // 4
 
 
 def rows_read(data: bytes) -> tuple[Any, array[int]]:
@@ -58,13 +62,15 @@ def rows_read(data: bytes) -> tuple[Any, array[int]]:
     return contents, rows
 
 
-def resources(data: bytes) -> array[int]:
-    """The resource of each row of a book that is not refused by 1 to 3."""
-    return rows_read(data)[1][_RESOURCE::_ROW_WORDS]
+def resources_and_steps(data: bytes) -> tuple[array[int], array[int]]:
+    """The resource and the step of each row of a book that is not refused by 1 to 3."""
+    rows = rows_read(data)[1]
+    return rows[_RESOURCE::_ROW_WORDS], rows[_STEP::_ROW_WORDS]
 
 
-def _offer(stamp: int, resource: int, seller: int, quantity: int, priced: int, price: int, whole: int, block: int) -> Offer:
-    return Offer(resource, seller, price if priced == GIVEN else None, quantity, block if whole == GIVEN else None, stamp)
+def _offer(stamp: int, resource: int, seller: int, quantity: int, priced: int, price: int, whole: int, block: int,
+           step: int) -> Offer:
+    return Offer(resource, seller, price if priced == GIVEN else None, quantity, block if whole == GIVEN else None, stamp, step)
 
 
 def _given(value: Any) -> Optional[int]:
@@ -78,10 +84,14 @@ def _lent(number: Optional[int]) -> Any:
     return _library.Value(GIVEN, number) if 0 <= index(number) <= NO_VALUE else _library.Value(0, NO_VALUE)
 
 
+def whole(number: int) -> int:
+    """A year or an edition on its way in. One that 32 bits do not hold is none, as the largest number is."""
+    return number if 0 <= index(number) <= NO_VALUE else NO_VALUE
+
+
 def lent(p: Parameters) -> Any:
     """Parameters on their way in."""
-    year = p.year if 0 <= index(p.year) <= NO_VALUE else NO_VALUE
-    return _library.Parameters(year, *map(_lent, (p.cost, p.offset, p.outage, p.requirement, p.margin)))
+    return _library.Parameters(whole(p.year), *map(_lent, (p.cost, p.offset, p.outage, p.requirement, p.margin)))
 
 
 def read(book: bytes) -> Book:
@@ -89,4 +99,4 @@ def read(book: bytes) -> Book:
     contents, rows = rows_read(held(book))
     p = contents.parameters
     parameters = Parameters(p.year, *map(_given, (p.cost, p.offset, p.outage, p.requirement, p.margin)))
-    return Book(parameters, [_offer(*row) for row in ROW.iter_unpack(rows)])
+    return Book(parameters, [_offer(*row) for row in ROW.iter_unpack(rows)], contents.edition)

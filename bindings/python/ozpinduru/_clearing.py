@@ -8,17 +8,18 @@ from itertools import repeat
 from operator import mul, sub
 from typing import Any, NamedTuple, Optional
 
-from ._book import resources
+from ._book import resources_and_steps
 from ._library import GIVEN, NONE, REFUSED, held, library, most_rows
 from ._refusal import Refusal
 
 
 class Row(NamedTuple):
-    """What one offer gets: cleared and committed tenths, and make-whole in mills a day."""
+    """What one offer gets: cleared and committed tenths, and make-whole in mills a day. `step` is the offer's own."""
     resource: int
     cleared: int
     committed: int
     make_whole: int
+    step: int = 1
 
 
 @dataclass(frozen=True)
@@ -70,7 +71,8 @@ def clear(book: bytes) -> Clearing:
     c = clear_columns(data)
     # With no price every row commits what it clears, which is nothing.
     make_whole = map(mul, repeat(c.price or 0), map(sub, c.committed, c.cleared))
-    rows = map(partial(tuple.__new__, Row), zip(resources(data), c.cleared, c.committed, make_whole))
+    resources, steps = resources_and_steps(data)
+    rows = map(partial(tuple.__new__, Row), zip(resources, c.cleared, c.committed, make_whole, steps))
     return Clearing(c.total, c.price, c.make_whole, c.daily, c.year, list(rows))
 
 

@@ -6,7 +6,7 @@ import os
 import pathlib
 from typing import Any
 
-VERSION = (0, 6, 0)
+VERSION = (0, 7, 0)
 
 # kinds
 GIVEN, NONE, REFUSED, MISSING, DIFFERS = 1, 2, 3, 4, 5
@@ -14,7 +14,7 @@ GIVEN, NONE, REFUSED, MISSING, DIFFERS = 1, 2, 3, 4, 5
 # a number of 32 bits that has no value
 NO_VALUE = 2**32 - 1
 
-BOOK_BYTES, ROWS, REPORT_BYTES, WORDS_BYTES = 20_992, 600, 32_768, 256
+BOOK_BYTES, ROWS, STEPS, REPORT_BYTES, WORDS_BYTES = 20_992, 600, 10, 32_768, 256
 
 
 def _struct(name: str, *fields: tuple[type, str]) -> Any:
@@ -25,11 +25,11 @@ def _struct(name: str, *fields: tuple[type, str]) -> Any:
 _word, _amount, _size = ctypes.c_uint32, ctypes.c_uint64, ctypes.c_size_t
 Value = _struct("ozp_value", (_word, "kind number"))
 Parameters = _struct("ozp_parameters", (_word, "year"), (Value, "cost offset outage requirement margin"))
-Row = _struct("ozp_row", (_amount, "stamp"), (_word, "resource seller quantity"), (Value, "price block"))
+Row = _struct("ozp_row", (_amount, "stamp"), (_word, "resource seller quantity"), (Value, "price block"), (_word, "step"))
 Answer = _struct("ozp_answer", (_amount, "make_whole daily year"), (_word, "kind total price rows number place"))
 CurvePoints = _struct("ozp_curve_points", (_word, "kind p1 p2 p3 q1 q2 q3 number place"))
 CurvePrice = _struct("ozp_curve_price", (_word, "kind cents remainder divisor number place"))
-Contents = _struct("ozp_contents", (_word, "kind rows number place"), (Parameters, "parameters"))
+Contents = _struct("ozp_contents", (_word, "kind rows edition number place"), (Parameters, "parameters"))
 Comparison = _struct("ozp_comparison", (_word, "kind price shared field row other book number place"))
 Text = _struct("ozp_text", (_amount, "bytes"), (_word, "kind number place"))
 STRUCTS = (Value, Parameters, Row, Answer, CurvePoints, CurvePrice, Contents, Comparison, Text)
@@ -42,7 +42,7 @@ def _declared(c: ctypes.CDLL) -> ctypes.CDLL:
         ("clear", Answer, book + buffer + buffer),
         ("quote", Answer, book),
         ("read", Contents, book + buffer),
-        ("write", Text, [Parameters] + buffer + buffer),
+        ("write", Text, [_word, Parameters] + buffer + buffer),
         ("compare", Comparison, book + book),
         ("curve", CurvePoints, [Parameters]),
         ("price_at", CurvePrice, [Parameters, _word]),

@@ -23,6 +23,7 @@ class Fault(enum.IntEnum):
     OFFER_OUT_OF_RANGE = 7
     REPEATED_RESOURCE = 8
     SHORT_BUFFER = 9
+    BROKEN_STEPS = 10
     TOO_MANY_ROWS = 19
     SHORT_ROOM = 20
 

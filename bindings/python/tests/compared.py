@@ -7,8 +7,9 @@ from shared import ROOT
 from drawn import NEAR, Panel, near
 from ozpinduru import clear, curve, price_at, read
 
-# An offer in the stack: its cleared part goes from start to cleared, what a block commits besides from there to committed.
-Stood = namedtuple("Stood", "resource price start cleared committed end")
+# An offer in the stack: its cleared part goes from start to cleared, what a block commits besides from there to committed. Its step
+# is told where its resource has several.
+Stood = namedtuple("Stood", "resource price start cleared committed end step")
 
 
 def clearings():
@@ -19,18 +20,21 @@ def clearings():
 def stood(book):
     """The offers of a book in the order of the stack, where each stands, and what it gets."""
     pairs = list(zip(read(book).offers, clear(book).rows))
-    offered, cleared = Counter(), Counter()
+    offered, cleared, many = Counter(), Counter(), Counter()
     for offer, row in pairs:
+        many[offer.resource] += 1
         offered[offer.price] += offer.quantity
         cleared[offer.price] += row.cleared
 
     def order(pair):
         part = Fraction(pair[0].quantity * cleared[pair[0].price], offered[pair[0].price])
-        return pair[0].price, part // 1 - part, pair[0].stamp, pair[0].resource
+        return pair[0].price, part // 1 - part, pair[0].stamp, pair[0].resource, pair[0].step
 
     start, stack = 0, []
     for offer, row in sorted(pairs, key=order):
-        stack.append(Stood(offer.resource, offer.price, start, start + row.cleared, start + row.committed, start + offer.quantity))
+        step = offer.step if many[offer.resource] > 1 else None
+        ends = start + row.cleared, start + row.committed, start + offer.quantity
+        stack.append(Stood(offer.resource, offer.price, start, *ends, step))
         start += offer.quantity
     return stack
 
@@ -48,10 +52,11 @@ def _part(panel, found, kind, price, start, end):
 
 
 def steps(panel, book):
-    found = {resource: list(marks) for resource, marks in groupby(panel.marks, lambda mark: mark.resource) if resource}
+    named = groupby(panel.marks, lambda mark: (mark.resource, mark.step))
+    found = {name: list(marks) for name, marks in named if name[0]}
     compared = 0
     for step in stood(book):
-        parts = found.pop(str(step.resource), [])
+        parts = found.pop((str(step.resource), None if step.step is None else str(step.step)), [])
         compared += _part(panel, parts, "offered", step.price, step.start, step.end)
         compared += _part(panel, parts, "cleared", step.price, step.start, step.cleared)
         compared += _part(panel, parts, "committed", step.price, step.cleared, step.committed)
@@ -118,6 +123,28 @@ def ties(panel, book):
     return 2 * len(seen)
 
 
+def runs(panel, book):
+    """A line through the middle of the steps of each resource that has several, where they are few and two of them are seen."""
+    by_resource = {}
+    for step in sorted(stood(book), key=lambda step: (step.resource, step.step or 0)):
+        if step.step is not None:
+            by_resource.setdefault(step.resource, []).append(step)
+    drawn, due, compared = panel.all("run"), [], 0
+    for run in by_resource.values() if len(by_resource) <= 8 else []:
+        at = [((panel.x(step.start) + panel.x(step.end)) / 2, (panel.y(step.price) + panel.foot) / 2) for step in run
+              if panel.inside(step.start, step.end) and panel.under(step.price)]
+        due += [at] if len(at) > 1 else []
+    assert len(drawn) == len(due), f"{len(drawn)} lines for {len(due)} resources with steps"
+    assert len(panel.all("knot")) == sum(map(len, due)), "a knot for each step that is seen"
+    for mark, at in zip(drawn, due):
+        for found, expected in zip(mark.corners, at, strict=True):
+            near(found[0], expected[0], "a knot, across")
+            near(found[1], expected[1], "a knot, down")
+            compared += 2
+    return compared
+
+
 def compare(book, panels):
     """Compares every panel of a picture with the numbers of its book, and returns how many coordinates were compared."""
-    return sum(steps(panel, book) + curved(panel, book) + lines(panel, book) + ties(panel, book) for panel in map(Panel, panels))
+    parts = steps, curved, lines, ties, runs
+    return sum(part(panel, book) for panel in map(Panel, panels) for part in parts)

@@ -9,8 +9,8 @@ from fractions import Fraction
 
 SVG = "{http://www.w3.org/2000/svg}"
 
-# the classes of an element, its box, the corners of a path, the words of a text, the resource of a step
-Mark = namedtuple("Mark", "kinds left top right bottom corners words resource")
+# the classes of an element, its box, the corners of a path, the words of a text, the resource of an offer and its step, if told
+Mark = namedtuple("Mark", "kinds left top right bottom corners words resource step")
 
 # The pixels by which a coordinate may differ: each is written to a hundredth, and so are the ticks that it is read by.
 NEAR = 0.03
@@ -29,7 +29,7 @@ def corners(way):
         yield x, y
 
 
-def _mark(element, resource):
+def _mark(element, resource, step):
     def has(name):
         return float(element.get(name, 0))
 
@@ -42,7 +42,7 @@ def _mark(element, resource):
         at = [(has("x"), has("y")), (has("x") + has("width"), has("y") + has("height"))]
     across, down = zip(*at)
     words = element.text if element.tag == f"{SVG}text" else ""
-    return Mark(kinds, min(across), min(down), max(across), max(down), at, words, resource)
+    return Mark(kinds, min(across), min(down), max(across), max(down), at, words, resource, step)
 
 
 def read_svg(text):
@@ -51,7 +51,8 @@ def read_svg(text):
         marks = []
         for element in panel:
             drawn = element if element.tag == f"{SVG}g" else [element]
-            marks += [_mark(part, element.get("data-resource")) for part in drawn if part.tag != f"{SVG}title"]
+            named = element.get("data-resource"), element.get("data-step")
+            marks += [_mark(part, *named) for part in drawn if part.tag != f"{SVG}title"]
         yield marks
 
 
@@ -88,3 +89,11 @@ class Panel:
 
     def y(self, cents):
         return max(self._down(cents), self.high)
+
+    def inside(self, start, end):
+        """Whether any of these tenths lie in the panel."""
+        return self._across(start) < self.right - NEAR and self._across(end) > self.left + NEAR
+
+    def under(self, cents):
+        """Whether a price lies in the panel."""
+        return self._down(cents) >= self.high - NEAR

@@ -47,7 +47,8 @@ class Clears(unittest.TestCase):
                 try:
                     answer, said = clear(data), "accepted"
                     self.assertEqual([len(answer.rows), sum(r.make_whole for r in answer.rows)], [count, answer.make_whole])
-                    self.assertEqual([r.resource for r in answer.rows], [o.resource for o in read(data).offers])
+                    offers = read(data).offers
+                    self.assertEqual([(r.resource, r.step) for r in answer.rows], [(o.resource, o.step) for o in offers])
                 except Refusal as refusal:
                     said = f"refused {refusal.number} {refusal.place}"
                     self.assertEqual(report(data), f"{said}\n")
@@ -166,11 +167,11 @@ class Words(unittest.TestCase):
     def test_words(self):
         self.assertEqual(words(6), "an offer has no price; the row")
         self.assertEqual(len({words(number) for number in Fault}), len(Fault))
-        for number in (0, 10, 18, 21, 2**32, -1):
+        for number in (0, 11, 18, 21, 2**32, -1):
             self.assertRaisesRegex(ValueError, f"^no refusal has number {number}$", words, number)
         self.assertEqual(report(book([])), "cleared 0\nprice -\ndaily 0\nyear 0\n")
         self.assertEqual(report(reference()).splitlines()[4], "13 33 50 637500")
-        self.assertEqual(version(), "0.6.0")
+        self.assertEqual(version(), "0.7.0")
 
     def test_names_and_words_are_the_header_s(self):
         header = (ROOT / "include" / "ozpinduru.h").read_text()

@@ -7,7 +7,7 @@ from shared import ROOT, reference, verdicts
 from compared import clearings, compare, stood
 from drawn import SVG, Panel, read_svg
 from ozpinduru import Refusal, chart, clear
-from write_book import book, many, offer
+from write_book import book, many, offer, steps
 
 BOOKS = {
     **clearings(),
@@ -18,6 +18,9 @@ BOOKS = {
     "P2 of 0": book([offer(1, 0, 9_000), offer(2, 20_000, 600), offer(3, 20_000, 700, block=650)], offset=146_000),
     "a tenth": book([offer(1, 40_000, 1)]),
     "the largest requirement": book([offer(n, 100 * n, 4_000 + n, block=4_000) for n in range(1, 521)], requirement=2_000_000),
+    "steps of two resources": book([*steps(5, 10_000, 37_500, 37_500, 40_000, 900_000, quantity=3_400), *steps(6, 0, 37_500)],
+                                   edition=2),
+    "steps of nine resources": book([row for n in range(1, 10) for row in steps(n, 0, 100 * n, quantity=700)], edition=2),
     "rows from dear to cheap": book([offer(9, 37_500, 50, 40, 3), offer(8, 10_000, 9_900), offer(7, 37_500, 70, None, 1)]),
 }
 
@@ -60,6 +63,25 @@ class Draws(unittest.TestCase):
         self.assertEqual([step.cleared - step.start for step in steps[1:]], [34, 34, 33])
         drawn = re.findall(r'data-resource="(\d+)"', chart(BOOKS["tie-two-spares-by-stamp-then-by-resource"]))
         self.assertEqual(drawn[:4], ["11", "15", "13", "14"])
+
+    def test_steps_of_a_resource_are_joined(self):
+        """A line through its steps, with the words of the resource; where nine have steps there is none."""
+        picture = chart(BOOKS["steps of two resources"])
+        self.assertEqual([len(Panel(marks).all("run")) for marks in read_svg(picture)], [2, 1])
+        self.assertIn("resource 5 sells in 5 steps, from $100.00 per MW-day to $9,000.00 per MW-day; cleared ", picture)
+        self.assertIn('data-resource="5" data-step="2"', picture)
+        self.assertIn(">resource 6, step 2 of 2: 10.0 MW offered at ", picture)
+        self.assertIn("steps of one resource", picture)
+        picture = chart(BOOKS["steps of nine resources"])
+        self.assertNotIn('class="steps"', picture)
+        self.assertNotIn("steps of one resource", picture)
+        self.assertIn(">resource 9, step 1 of 2: ", picture)
+        self.assertIn("9 resources with several steps: 18 offers.", picture)
+        self.assertNotIn("step ", chart(reference()).replace('class="step ', ""))
+
+    def test_tied_steps_stand_in_the_order_of_spare_tenths(self):
+        steps = [(step.resource, step.step) for step in stood(BOOKS["steps-tied-lower-resource-before-lower-step"])]
+        self.assertEqual(steps, [(11, None), (12, 1), (12, 2), (13, None)])
 
     def test_600_offers_are_little_work(self):
         for rows in (many(600), [offer(row, 37_500, 20, block=20) for row in range(1, 601)]):

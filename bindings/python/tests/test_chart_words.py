@@ -43,13 +43,25 @@ class Says(unittest.TestCase):
         self.assertNotIn("zero", " ".join(said(chart(reference()))))
 
     def test_legend_names_what_occurs(self):
-        names = {"cleared", "committed by a block, not cleared", "offered, not cleared", "tied at one price", "requirement curve"}
-        missing = {"no-offers": names - {"requirement curve"}, "reference-printed-example": set(),
+        names = {"steps of one resource", "cleared", "committed by a block, not cleared", "offered, not cleared", "tied at one price", "requirement curve"}
+        flat = {"steps of one resource"}
+        missing = {"no-offers": names - {"requirement curve"}, "reference-printed-example": flat,
+                   "steps-block-on-step-1-is-made-whole": set(),
                    "9000-at-0-all-clears": names - {"cleared", "requirement curve"},
-                   "block-over-the-cleared-part-at-price-0": {"offered, not cleared", "tied at one price"},
+                   "block-over-the-cleared-part-at-price-0": flat | {"offered, not cleared", "tied at one price"},
                    "100-at-50001-clears-nothing": names - {"offered, not cleared", "requirement curve"}}
         for name, expected in missing.items():
             self.assertEqual(names - set(said(chart(BOOKS[name]))), expected, name)
+
+    def test_legend_stays_inside(self):
+        """Every key has room, in two lines where all of them occur."""
+        lines = {}
+        for name in ("reference-printed-example", "steps-block-on-step-1-is-made-whole"):
+            legend = xml.fromstring(chart(BOOKS[name])).find(f"{SVG}g[@class='legend']")
+            at = [(*map(float, key.get("transform")[10:-1].split()), key.find(f"{SVG}text").text) for key in legend]
+            self.assertLess(max(x + 26 + 7.3 * len(words) for x, _, words in at), 1_000 - 20)
+            lines[name] = {y for _, y, _ in at}
+        self.assertEqual(list(map(len, lines.values())), [1, 2])
 
     def test_outside(self):
         rows = [offer(1, 0, 9_000), offer(2, 60_000, 300), offer(3, 900_000), offer(4, 900_000), offer(5, 1_000_000)]

@@ -14,6 +14,7 @@ OZP = [sys.executable, "-m", "ozpinduru"]
 REFERENCE = str(ROOT / "examples" / "reference.book")
 UNPRICED = str(VERDICTS / "data" / "no-price-in-row-0.book")
 NOTHING = str(VERDICTS / "data" / "no-offers-length-512.book")
+STEPS = str(ROOT / "tests" / "clearings" / "steps-whole-then-one-in-part-then-none.book")
 MISSED = str(VERDICTS / "data" / "margin-missing-in-2022.book")
 GIVEN = "curve --year 2026 --cost 146000 --offset 73000 --outage 2000 --requirement 10000".split()
 SETTING = {**os.environ, "PYTHONPATH": str(PYTHON)}
@@ -43,6 +44,14 @@ class Says(unittest.TestCase):
     def test_rows(self):
         status, said, _ = ozp("rows", REFERENCE)
         self.assertEqual((status, said.splitlines()[-1].split()), (0, ["2", "13", "3.3", "MW", "5.0", "MW", "$637.500"]))
+
+    def test_rows_of_steps(self):
+        status, said, _ = ozp("rows", STEPS)
+        self.assertEqual((status, said.splitlines()[1].split()[:4]), (0, ["row", "resource", "step", "cleared"]))
+        self.assertEqual([line.split()[:3] for line in said.splitlines()[2:]],
+                         [["0", "11", "1"], ["1", "11", "2"], ["2", "11", "3"], ["3", "11", "4"]])
+        self.assertEqual([row["step"] for row in json.loads(ozp("rows", "--json", STEPS)[1])["rows"]], [1, 2, 3, 4])
+        self.assertNotIn("step", ozp("rows", REFERENCE)[1])
 
     def test_curve(self):
         points = "990.0 MW at $500.00 per MW-day; 1,015.0 MW at $187.50 per MW-day; 1,045.0 MW at $0.00 per MW-day"
@@ -102,7 +111,7 @@ class Says(unittest.TestCase):
         self.assertEqual((status, cleared["price"], nothing["price"]), (1, 37_500, None))
         self.assertEqual(refused["refused"], {"number": 6, "place": 0, "where": "row 0", "when": "an offer has no price"})
         self.assertEqual(json.loads(ozp("rows", "--json", REFERENCE)[1])["rows"][2],
-                         {"resource": 13, "cleared": 33, "committed": 50, "make_whole": 637_500})
+                         {"resource": 13, "cleared": 33, "committed": 50, "make_whole": 637_500, "step": 1})
         self.assertEqual([json.loads(ozp(*GIVEN, "--json", "--at", k)[1])["price_at"] for k in ("10151", "10451")],
                          [{"cents": 18_687, "remainder": 150, "divisor": 300}, None])
         refused = json.loads(ozp("curve", "--json", MISSED)[1])["refused"]

@@ -53,7 +53,8 @@ class ReadsAndWrites(Files):
         status, said, _ = ozp("read", REFERENCE)
         document = json.loads(said)
         self.assertEqual((status, document["parameters"]["margin"], document["offers"][0]["block"]), (0, None, None))
-        self.assertEqual(document["offers"][2], dict(resource=13, seller=7, price=37_500, quantity=100, block=50, stamp=3))
+        self.assertEqual((list(document), document["edition"]), (["edition", "parameters", "offers"], 1))
+        self.assertEqual(document["offers"][2], dict(resource=13, seller=7, price=37_500, quantity=100, block=50, stamp=3, step=1))
         self.assertEqual(ozp("write", "-", "-o", self.path("book"), input=said.encode()),
                          (0, f"{self.path('book')}: written, 3 offers in 1,024 bytes\n", ""))
         self.assertEqual((self.folder / "book").read_bytes(), reference())
@@ -68,6 +69,28 @@ class ReadsAndWrites(Files):
         self.assertEqual((self.folder / "copy").read_bytes(), MISSING.read_bytes())
         self.assertEqual(ozp("read", str(MISSING), "--parameters", parameters)[:2], (0, (self.folder / "rows.json").read_text()))
         self.assertEqual(self.names(), ["copy", "p.json", "rows.json"])
+
+    def test_editions(self):
+        """A document without an edition or a step means 1; --edition says it where the document does not."""
+        steps = VERDICTS / "data" / "steps-1-to-10-of-one-resource.book"
+        document, book = json.loads(ozp("read", str(steps))[1]), self.path("book")
+        self.assertEqual((document["edition"], [offer["step"] for offer in document["offers"]]), (2, [*range(1, 11)]))
+        self.assertEqual(ozp("write", self.path("json", document), "-o", book),
+                         (0, f"{book}: written, edition 2, 10 offers in 1,024 bytes\n", ""))
+        self.assertEqual((self.folder / "book").read_bytes(), steps.read_bytes())
+        apart = self.path("p.json"), self.path("rows.json")
+        self.assertEqual(ozp("read", str(steps), "--parameters", apart[0], "-o", apart[1]), (0, "", ""))
+        self.assertEqual(ozp("write", "--parameters", *apart, "-o", book, "--json")[::2], (0, ""))
+        self.assertEqual((self.folder / "book").read_bytes(), steps.read_bytes())
+        self.assertEqual(json.loads((self.folder / "p.json").read_text())["edition"], 2)
+        old = json.loads(ozp("read", REFERENCE)[1])
+        old = {"parameters": old["parameters"],
+               "offers": [{name: offer[name] for name in offer if name != "step"} for offer in old["offers"]]}
+        self.assertEqual(ozp("write", self.path("json", old), "-o", book)[::2], (0, ""))
+        self.assertEqual((self.folder / "book").read_bytes(), reference())
+        said = json.loads(ozp("write", self.path("json", old), "-o", book, "--edition", "2", "--json")[1])
+        self.assertEqual((said["edition"], said["offers"], said["bytes"]), (2, 3, 1_024))
+        self.assertEqual(json.loads(ozp("read", book)[1])["edition"], 2)
 
     def test_every_book_that_ships(self):
         """What is read is written back byte for byte where the book is sound; else no book is made."""
@@ -106,6 +129,13 @@ class Fails(Files):
         self.fails(1, r'"refused": \{"number": 5, "place": 2, ', "write", "--json", source, "-o", book)
         self.path("json", {**document, "offers": document["offers"] * 201})
         self.fails(1, "refused 19 at 0: more than 600 rows$", "write", source, "-o", book)
+        steps = {**document, "parameters": json.loads(ozp("read", REFERENCE)[1])["parameters"]}
+        self.path("json", {**steps, "offers": [{**document["offers"][0], "step": 2}]})
+        self.fails(1, "refused 7 at row 0: ", "write", source, "-o", book)
+        self.path("json", {**steps, "edition": 2, "offers": [{**document["offers"][0], "step": 2}]})
+        self.fails(1, "refused 10 at row 0: ", "write", source, "-o", book)
+        self.path("json", {**steps, "edition": 3})
+        self.fails(1, "refused 3 at block 0: ", "write", source, "-o", book)
         self.fails(1, r'^\{"book": ".*", "refused": \{"number": 2, "place": ', "read", DAMAGED, "-o", book)
 
     def test_no_json_of_a_book(self):
@@ -120,6 +150,9 @@ class Fails(Files):
             ({**document, "offers": [{**first, "price": "1"}]}, "offer 0: 'price' is no whole number and no null"),
             ({**document, "offers": [{**first, "price": True}]}, "'price' is no whole number"),
             ({**document, "offers": [{**first, "stamp": None}]}, "'stamp' is no whole number$"),
+            ({**document, "offers": [{**first, "step": None}]}, "offer 0: 'step' is no whole number$"),
+            ({**document, "edition": None}, "'edition' is no whole number$"), ({**document, "edition": True}, "'edition' is no"),
+            ({**document, "parameters": {**parameters, "edition": 1}}, "'edition' is none of year, "),
             ({**document, "offers": [{**first, "prise": 1}]}, "'prise' is none of resource, seller, price, "),
             ({**document, "parameters": {**parameters, "margin": float("nan")}}, "NaN is no whole number"),
             ({**document, "parameters": {name: parameters[name] for name in parameters if name != "margin"}}, "no 'margin'; null"),
@@ -136,7 +169,8 @@ class Fails(Files):
         for words in (["write", source], ["write", source, "-o", "-"], ["write", source, "-o", source], ["read"],
                       ["write", "-", "--parameters", "-", "-o", other], ["write", other, "--parameters", source, "-o", source],
                       ["read", source, "-o", source], ["read", other, "--parameters", source, "-o", source],
-                      ["read", other, "-o", "-"], ["read", source, other]):
+                      ["read", other, "-o", "-"], ["read", source, other],
+                      ["write", source, "-o", other, "--edition", "1"], ["write", source, "-o", other, "--edition", "3"]):
             with self.subTest(words):
                 self.fails(2, "^ozp", *words)
 

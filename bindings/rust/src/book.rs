@@ -6,6 +6,23 @@ use crate::{CentsPerMwDay, DollarsPerMwYear, Refusal, Tenths};
 /// The most rows that a book has: buffers of so many entries are long enough for every book.
 pub const MOST_ROWS: usize = raw::ROWS;
 
+/// The most steps that a resource has.
+pub const MOST_STEPS: u32 = raw::STEPS as u32;
+
+/// The edition of a book: the second has a step in every row, and the first reads as having step 1 throughout.
+#[derive(Clone, Copy, Debug, PartialEq, Eq, PartialOrd, Ord, Hash)]
+pub enum Edition {
+    First = 1,
+    Second = 2,
+}
+
+impl Edition {
+    /// The edition of a number.
+    pub fn of(number: u32) -> Option<Edition> {
+        [Edition::First, Edition::Second].into_iter().find(|edition| *edition as u32 == number)
+    }
+}
+
 /// The parameters of a region; what is missing is none.
 #[derive(Clone, Copy, Debug, PartialEq, Eq)]
 pub struct Parameters {
@@ -34,11 +51,15 @@ pub struct Offer {
     /// The minimum block; none where the offer is flexible.
     pub block: Option<Tenths>,
     pub stamp: u64,
+    /// From 1 to [`MOST_STEPS`]; in the first edition 1. A resource's steps stand in neighbouring rows, counted up from 1, prices
+    /// never falling, and only step 1 may have a minimum block.
+    pub step: u32,
 }
 
-/// The parameters of a book and its offers, row by row.
+/// The edition of a book, its parameters and its offers, row by row.
 #[derive(Clone, Debug, PartialEq, Eq)]
 pub struct Book {
+    pub edition: Edition,
     pub parameters: Parameters,
     pub offers: Vec<Offer>,
 }
@@ -50,6 +71,7 @@ pub struct Book {
 /// let book = ozpinduru::read(&bytes)?;
 /// assert_eq!(book.parameters.cost, Some(ozpinduru::DollarsPerMwYear(146_000)));
 /// assert_eq!((book.offers[2].resource, book.offers[2].block), (13, Some(ozpinduru::Tenths(50))));
+/// assert_eq!((book.edition, book.offers[2].step), (ozpinduru::Edition::First, 1));
 /// # Ok::<(), ozpinduru::Refusal>(())
 /// ```
 pub fn read(book: &[u8]) -> Result<Book, Refusal> {
@@ -63,7 +85,11 @@ pub fn read(book: &[u8]) -> Result<Book, Refusal> {
     };
     match contents.kind {
         raw::REFUSED => Err(Refusal::of(contents.number, contents.place)),
-        raw::GIVEN => Ok(Book { parameters: contents.parameters.into(), offers: rows.into_iter().map(Offer::from).collect() }),
+        raw::GIVEN => Ok(Book {
+            edition: Edition::of(contents.edition).expect("a book that is read has edition 1 or 2"),
+            parameters: contents.parameters.into(),
+            offers: rows.into_iter().map(Offer::from).collect(),
+        }),
         kind => raw::unknown(kind),
     }
 }
@@ -114,6 +140,7 @@ impl From<&Offer> for raw::Row {
             quantity: offer.quantity.0,
             price: lent(offer.price.map(|cents| cents.0)),
             block: lent(offer.block.map(|tenths| tenths.0)),
+            step: offer.step,
         }
     }
 }
@@ -127,6 +154,7 @@ impl From<raw::Row> for Offer {
             quantity: Tenths(row.quantity),
             block: given(row.block).map(Tenths),
             stamp: row.stamp,
+            step: row.step,
         }
     }
 }

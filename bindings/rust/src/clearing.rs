@@ -34,13 +34,15 @@ pub struct Clearing {
 #[derive(Clone, Copy, Debug, PartialEq, Eq)]
 pub struct Row {
     pub resource: u32,
+    /// In a book of the first edition 1.
+    pub step: u32,
     pub cleared: Tenths,
     pub committed: Tenths,
     /// By the day.
     pub make_whole: Mills,
 }
 
-/// Clears a book; each row of the result has its resource.
+/// Clears a book; each row of the result has its resource and its step.
 pub fn clear(book: &[u8]) -> Result<Clearing, Refusal> {
     let (mut cleared, mut committed) = ([Tenths(0); MOST_ROWS], [Tenths(0); MOST_ROWS]);
     let quote = clear_into(book, &mut cleared, &mut committed)?;
@@ -48,7 +50,7 @@ pub fn clear(book: &[u8]) -> Result<Clearing, Refusal> {
     let amounts = cleared.into_iter().zip(committed);
     let rows = offers.iter().zip(amounts).map(|(offer, (cleared, committed))| {
         let make_whole = quote.make_whole_of(cleared, committed);
-        Row { resource: offer.resource, cleared, committed, make_whole }
+        Row { resource: offer.resource, step: offer.step, cleared, committed, make_whole }
     });
     let Quote { total, price, make_whole, daily, year, .. } = quote;
     Ok(Clearing { total, price, make_whole, daily, year, rows: rows.collect() })

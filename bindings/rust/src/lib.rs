@@ -31,7 +31,7 @@ mod text;
 mod units;
 mod writing;
 
-pub use book::{read, Book, Offer, Parameters, MOST_ROWS};
+pub use book::{read, Book, Edition, Offer, Parameters, MOST_ROWS, MOST_STEPS};
 pub use calendar::days;
 pub use clearing::{clear, clear_into, quote, Clearing, Quote, Row};
 pub use comparison::{compare, Comparison};

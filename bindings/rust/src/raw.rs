@@ -16,6 +16,8 @@ pub const DIFFERS: u32 = 5;
 pub const BOOK_BYTES: usize = 20_992;
 /// The most rows of a book.
 pub const ROWS: usize = 600;
+/// The most steps of a resource.
+pub const STEPS: usize = 10;
 /// Room for every text of `ozp_report`.
 pub const REPORT_BYTES: usize = 32_768;
 /// Room for every text of `ozp_words`.
@@ -52,7 +54,7 @@ structs! {
     /// The year, C, E, F, R and the reserve margin.
     Parameters { year: u32, cost: Value, offset: Value, outage: Value, requirement: Value, margin: Value }
     /// A row of a book.
-    Row { stamp: u64, resource: u32, seller: u32, quantity: u32, price: Value, block: Value }
+    Row { stamp: u64, resource: u32, seller: u32, quantity: u32, price: Value, block: Value, step: u32 }
     /// What a book clears.
     Answer {
         make_whole: u64, daily: u64, year: u64, kind: u32, total: u32, price: u32, rows: u32, number: u32, place: u32,
@@ -62,7 +64,7 @@ structs! {
     /// The price of a curve at a quantity, between cents.
     CurvePrice { kind: u32, cents: u32, remainder: u32, divisor: u32, number: u32, place: u32 }
     /// What a book says.
-    Contents { kind: u32, rows: u32, number: u32, place: u32, parameters: Parameters }
+    Contents { kind: u32, rows: u32, edition: u32, number: u32, place: u32, parameters: Parameters }
     /// The comparison of two books.
     Comparison {
         kind: u32, price: u32, shared: u32, field: u32, row: u32, other: u32, book: u32, number: u32, place: u32,
@@ -88,7 +90,14 @@ extern "C" {
     ) -> Answer;
     pub fn ozp_quote(book: *const u8, book_bytes: usize) -> Answer;
     pub fn ozp_read(book: *const u8, book_bytes: usize, rows: *mut Row, row_entries: usize) -> Contents;
-    pub fn ozp_write(parameters: Parameters, rows: *const Row, row_entries: usize, room: *mut u8, room_bytes: usize) -> Text;
+    pub fn ozp_write(
+        edition: u32,
+        parameters: Parameters,
+        rows: *const Row,
+        row_entries: usize,
+        room: *mut u8,
+        room_bytes: usize,
+    ) -> Text;
     pub fn ozp_compare(first: *const u8, first_bytes: usize, second: *const u8, second_bytes: usize) -> Comparison;
     pub fn ozp_curve(parameters: Parameters) -> CurvePoints;
     pub fn ozp_price_at(parameters: Parameters, k: u32) -> CurvePrice;

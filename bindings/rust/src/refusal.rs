@@ -27,6 +27,9 @@ pub enum Refusal {
     RepeatedResource { row: u32 },
     /// 9: a result buffer has fewer entries than the book has offers.
     ShortBuffer(Buffer),
+    /// 10: a resource's steps do not stand in neighbouring rows counted up from 1, their prices fall, or a step past 1 has a
+    /// minimum block.
+    BrokenSteps { row: u32 },
     /// 19: more than 600 rows.
     TooManyRows,
     /// 20: the room lent is too small.
@@ -78,6 +81,7 @@ impl Refusal {
             Refusal::OfferOutOfRange { .. } => 7,
             Refusal::RepeatedResource { .. } => 8,
             Refusal::ShortBuffer(_) => 9,
+            Refusal::BrokenSteps { .. } => 10,
             Refusal::TooManyRows => 19,
             Refusal::ShortRoom => 20,
             Refusal::Unnamed { number, .. } => number,
@@ -90,7 +94,8 @@ impl Refusal {
             Refusal::WrongLength | Refusal::TooManyRows | Refusal::ShortRoom => 0,
             Refusal::WrongCheck { block } | Refusal::WrongLayout { block } => block,
             Refusal::MissingParameter(field) | Refusal::ParameterOutOfRange(field) => field as u32,
-            Refusal::UnpricedOffer { row } | Refusal::OfferOutOfRange { row } | Refusal::RepeatedResource { row } => row,
+            Refusal::UnpricedOffer { row } | Refusal::OfferOutOfRange { row } => row,
+            Refusal::RepeatedResource { row } | Refusal::BrokenSteps { row } => row,
             Refusal::ShortBuffer(buffer) => buffer as u32,
             Refusal::Unnamed { place, .. } => place,
         }
@@ -109,6 +114,7 @@ impl Refusal {
             7 => Some(Refusal::OfferOutOfRange { row: place }),
             8 => Some(Refusal::RepeatedResource { row: place }),
             9 => BUFFERS.get(at).copied().map(Refusal::ShortBuffer),
+            10 => Some(Refusal::BrokenSteps { row: place }),
             19 if place == 0 => Some(Refusal::TooManyRows),
             20 if place == 0 => Some(Refusal::ShortRoom),
             _ => None,
@@ -148,7 +154,7 @@ impl fmt::Display for Refusal {
             Refusal::WrongCheck { .. } | Refusal::WrongLayout { .. } => write!(f, "block {place}"),
             Refusal::MissingParameter(field) | Refusal::ParameterOutOfRange(field) => write!(f, "field {place} ({field})"),
             Refusal::UnpricedOffer { .. } | Refusal::OfferOutOfRange { .. } => write!(f, "row {place}"),
-            Refusal::RepeatedResource { .. } => write!(f, "row {place}"),
+            Refusal::RepeatedResource { .. } | Refusal::BrokenSteps { .. } => write!(f, "row {place}"),
             Refusal::ShortBuffer(buffer) => write!(f, "buffer {place} ({buffer})"),
             _ => write!(f, "{place}"),
         }?;

@@ -2,7 +2,7 @@
 
 use ozpinduru::{clear, clear_into, compare, curve, days, price_at, quote, read, report, version, words};
 use ozpinduru::{
-    Buffer, CentsPerMwDay, Comparison, DollarsPerMwYear, Field, Mills, Offer, Parameters, Point, Refusal, Row, Tenths,
+    Buffer, CentsPerMwDay, Comparison, DollarsPerMwYear, Edition, Field, Mills, Offer, Parameters, Point, Refusal, Row, Tenths,
 };
 use std::fs;
 use std::path::Path;
@@ -27,7 +27,7 @@ fn verdict(name: &str) -> Vec<u8> {
 }
 
 fn row((resource, cleared, committed, make_whole): (u32, u32, u32, u64)) -> Row {
-    Row { resource, cleared: Tenths(cleared), committed: Tenths(committed), make_whole: Mills(make_whole) }
+    Row { resource, step: 1, cleared: Tenths(cleared), committed: Tenths(committed), make_whole: Mills(make_whole) }
 }
 
 #[test]
@@ -64,7 +64,7 @@ fn buffers_of_the_right_length_are_enough_and_short_ones_are_unchanged() {
 #[test]
 fn a_book_says_its_values() {
     let book = read(&book()).unwrap();
-    assert_eq!(book.parameters, REFERENCE);
+    assert_eq!((book.edition, book.parameters), (Edition::First, REFERENCE));
     let offer = |resource, price, quantity, block: Option<u32>, stamp| Offer {
         resource,
         seller: 7,
@@ -72,12 +72,23 @@ fn a_book_says_its_values() {
         quantity: Tenths(quantity),
         block: block.map(Tenths),
         stamp,
+        step: 1,
     };
     let due = [offer(11, 10_000, 9_900, None, 1), offer(12, 37_500, 200, None, 2), offer(13, 37_500, 100, Some(50), 3)];
     assert_eq!(book.offers, due);
     assert_eq!(read(&verdict("no-price-in-row-0.book")).unwrap().offers[0].price, None);
     assert_eq!(read(&verdict("missing-cost.book")).unwrap().parameters, Parameters { cost: None, ..REFERENCE });
     assert_eq!(read(&[]), Err(Refusal::WrongLength));
+}
+
+#[test]
+fn a_row_has_its_step() {
+    let steps = |name| clear(&verdict(name)).unwrap().rows.iter().map(|row| (row.resource, row.step)).collect::<Vec<_>>();
+    assert!(steps("steps-1-to-10-of-one-resource.book").into_iter().eq((1..=10).map(|step| (5, step))));
+    assert!(steps("steps-across-blocks.book")[13..].iter().copied().eq((1..=10).map(|step| (50, step))));
+    assert!(steps("offers-16-need-two-blocks.book").into_iter().eq((1..=16).map(|resource| (resource, 1))));
+    assert_eq!(read(&verdict("edition-2-no-offers.book")).unwrap().edition, Edition::Second);
+    assert_eq!(clear(&verdict("step-2-twice.book")), Err(Refusal::BrokenSteps { row: 2 }));
 }
 
 #[test]

@@ -46,20 +46,34 @@ fn every_book_has_its_verdict() {
 fn every_refusal_of_a_book_occurs_and_has_its_sentence() {
     let refusals: Vec<Refusal> = verdicts().iter().filter_map(|(book, ..)| clear(book).err()).collect();
     let numbers: BTreeSet<u32> = refusals.iter().map(|refusal| refusal.number()).collect();
-    assert!(numbers.into_iter().eq(1..=8));
+    assert!(numbers.into_iter().eq([1, 2, 3, 4, 5, 6, 7, 8, 10]));
     let sentences: BTreeSet<String> = refusals.iter().map(Refusal::to_string).collect();
     let places: BTreeSet<(u32, u32)> = refusals.iter().map(|refusal| (refusal.number(), refusal.place())).collect();
     assert_eq!(sentences.len(), places.len());
     assert!(sentences.contains("refused 6 at row 0: an offer has no price"));
     assert!(sentences.contains("refused 4 at field 2 (cost of new entry): a parameter is missing"));
+    assert!(sentences.contains("refused 10 at row 1: a resource's steps do not stand in neighbouring rows counted up from 1, their prices fall, or a step past 1 has a minimum block"));
     assert!(sentences.contains("refused 2 at block 0: a block's check is wrong"));
 }
 
 #[test]
 fn numbers_and_places_make_their_refusal_again() {
-    for (number, place) in
-        [(1, 0), (2, 40), (3, 0), (4, 2), (5, 1), (6, 599), (7, 0), (8, 1), (9, 2), (19, 0), (20, 0), (9, 3), (77, 5)]
-    {
+    for (number, place) in [
+        (1, 0),
+        (2, 40),
+        (3, 0),
+        (4, 2),
+        (5, 1),
+        (6, 599),
+        (7, 0),
+        (8, 1),
+        (9, 2),
+        (10, 599),
+        (19, 0),
+        (20, 0),
+        (9, 3),
+        (77, 5),
+    ] {
         let refusal = Refusal::of(number, place);
         assert_eq!((refusal.number(), refusal.place()), (number, place));
         assert_eq!(matches!(refusal, Refusal::Unnamed { .. }), number == 77 || place == 3);

@@ -25,7 +25,8 @@ pub record ByLevel (o : Offers) (x : ℕ) (y : ℕ → ℕ) : Type 0 where
 
 -- offers with other quantities, so that the laws of supply speak of amounts
 abbrev offering : Offers → (ℕ → ℕ) → Offers
-offering o y = record { count = o .count; price = o .price; quantity = y; stamp = o .stamp; resource = o .resource }
+offering o y =
+    record { count = o .count; price = o .price; quantity = y; stamp = o .stamp; resource = o .resource; step = o .step }
 
 module _ (o : Offers) (x : ℕ) (y : ℕ → ℕ) (b : ByLevel o x y) where
   level-sum : (p : ℕ) → levelSum (offering o y) p ≡ min (x - supplyBelow o p) (levelSum o p)

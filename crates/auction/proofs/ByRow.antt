@@ -28,7 +28,9 @@ module _ (o : Offers) (x : ℕ) where
   rowAhead r s =
       ltb (rowLeft s) (rowLeft r)
       || (eqb (rowLeft s) (rowLeft r)
-      && (ltb (r .stamp) (s .stamp) || (eqb (r .stamp) (s .stamp) && ltb (r .resource) (s .resource))))
+      && (ltb (r .stamp) (s .stamp)
+      || (eqb (r .stamp) (s .stamp)
+      && (ltb (r .resource) (s .resource) || (eqb (r .resource) (s .resource) && ltb (r .step) (s .step))))))
 
   -- how the offer r counts in the rank of the offer s, and the rank of s
   unfoldable pub rankPart : Row → Row → ℕ

@@ -18,9 +18,11 @@ pub record Row : Type 0 where
   pub quantity : ℕ
   pub stamp : ℕ
   pub resource : ℕ
+  pub step : ℕ
 
 abbrev pub rowOf : Offers → ℕ → Row
-rowOf o i = record { price = o .price i; quantity = o .quantity i; stamp = o .stamp i; resource = o .resource i }
+rowOf o i =
+    record { price = o .price i; quantity = o .quantity i; stamp = o .stamp i; resource = o .resource i; step = o .step i }
 
 -- the offers at the price p or below, in the order of their rows
 unfoldable pub rowsAtOrBelow : ℕ → Offers → List Row

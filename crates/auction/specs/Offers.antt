@@ -15,6 +15,7 @@ pub record Offers : Type 0 where
   pub quantity : ℕ → ℕ
   pub stamp : ℕ → ℕ
   pub resource : ℕ → ℕ
+  pub step : ℕ → ℕ
 
 -- a curve: its price at a quantity from 0 to its last point
 pub record Demand : Type 0 where
@@ -25,10 +26,10 @@ pub record Demand : Type 0 where
 unfoldable pub Falling : Demand → Type 0
 Falling d = (j k : ℕ) → j ≤ k → k ≤ d .last → d .price k ≤ d .price j
 
--- every offer has something to sell, and no two have one resource number
+-- every offer has something to sell, and no two have one resource number and one step
 pub record Proper (o : Offers) : Type 0 where
   pub positive : (i : ℕ) → i < o .count → 0 < o .quantity i
-  pub distinct : (i j : ℕ) → i < o .count → j < o .count → o .resource i ≡ o .resource j → i ≡ j
+  pub distinct : (i j : ℕ) → i < o .count → j < o .count → o .resource i ≡ o .resource j → o .step i ≡ o .step j → i ≡ j
 
 -- everything offered at the price p or below
 unfoldable pub supply : Offers → ℕ → ℕ

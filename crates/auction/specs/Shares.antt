@@ -27,9 +27,9 @@ remainder o x i = weighted o x i % levelSum o (o .price i)
 unfoldable pub spareTenths : Offers → ℕ → ℕ → ℕ
 spareTenths o x p = levelAmount o x p - sumWhere (λ i. eqb (o .price i) p) (shareDown o x) (o .count)
 
--- the order of spare tenths: the larger remainder, then the earlier stamp, then the lower resource
+-- the order of spare tenths: the larger remainder, then the earlier stamp, then the lower resource, then the lower step
 unfoldable pub ahead : Offers → ℕ → ℕ → ℕ → Bool
-ahead o x = highestBy (remainder o x) (thenBy (o .stamp) (byKey (o .resource)))
+ahead o x = highestBy (remainder o x) (thenBy (o .stamp) (thenBy (o .resource) (byKey (o .step))))
 
 -- how many of row i's level stand before it
 unfoldable pub rank : Offers → ℕ → ℕ → ℕ

@@ -27,7 +27,7 @@ use Rattle.book.specs.Faults.{contentsFault, firstFault, givenFault, sou
 use Rattle.book.proofs.Stages.{bookRows, sound-formed, form-inside}
 use Rattle.book.proofs.Unpriced.{rows-unpriced}
 
--- Contents of at most 600 offers that pass 4 to 8 can be cleared.
+-- Contents of at most 600 offers that pass 4 to 8 and 10 can be cleared.
 pub contents-clearable : (c : Contents) → length (c .offers) ≤ 600 → contentsFault c ≡ Passed → Clearable c
 unfolding contentsFault parametersFault
 contents-clearable c few passed =
@@ -38,8 +38,8 @@ contents-clearable c few passed =
       parameters =
           parameters-ranged (c .parameters) (andThen-left (missingFault (c .parameters)) _ given)
           (andThen-right (missingFault (c .parameters)) _ given);
-      priced = rows-priced (offerAt (c .offers)) (length (c .offers)) rows;
-      distinct = rows-distinct true (offerAt (c .offers)) (length (c .offers)) rows;
+      priced = rows-priced (c .edition) (offerAt (c .offers)) (length (c .offers)) rows;
+      distinct = rows-distinct true (c .edition) (offerAt (c .offers)) (length (c .offers)) rows;
     }
 
 -- a book of good form says at most 600 offers
@@ -54,12 +54,13 @@ module _ (b : List ℕ) (accepted : firstFault b ≡ Passed) where
   unfolding firstFault
   accepted-form = andThen-left (formFault b) _ accepted
 
-  -- What it says passes 4 to 8.
+  -- What it says passes 4 to 8 and 10.
   pub accepted-contents : contentsFault (contentsOf b) ≡ Passed
   unfolding firstFault
   accepted-contents = andThen-right (formFault b) _ accepted
 
-  -- What it says can be cleared: parameters given and in range, offers priced and in range, resource numbers that differ.
+  -- What it says can be cleared: parameters given and in range, offers priced and in range, no resource's step
+  -- twice.
   pub accepted-clearable : Clearable (contentsOf b)
   accepted-clearable = contents-clearable (contentsOf b) (form-few b accepted-form) accepted-contents
 
@@ -75,7 +76,7 @@ module _ (b : List ℕ) (accepted : firstFault b ≡ Passed) where
       let given = andThen-left (parametersFault p) _ accepted-contents in
       sound-formed b accepted-form
       ∙ andThen-next (rangeFault p) _ (andThen-right (missingFault p) _ given)
-      ∙ rows-unpriced (offerAt (contentsOf b .offers)) (length (contentsOf b .offers))
+      ∙ rows-unpriced (contentsOf b .edition) (offerAt (contentsOf b .offers)) (length (contentsOf b .offers))
       (andThen-right (parametersFault p) _ accepted-contents)
 
 -- ---- a sound book
@@ -93,15 +94,17 @@ module _ (b : List ℕ) (sound : soundFault b ≡ Passed) where
   pub sound-range : rangeFault (contentsOf b .parameters) ≡ Passed
   sound-range = andThen-left (rangeFault (contentsOf b .parameters)) _ range-then-rows
 
-  -- Its rows pass 7 and 8 on what they give.
+  -- Its rows pass 7, 8 and 10 on what they give.
   pub sound-rows : bookRows false b ≡ Passed
   sound-rows = andThen-right (rangeFault (contentsOf b .parameters)) _ range-then-rows
 
   -- Each of its offers has the values that it gives within their ranges.
   pub sound-offers : (row : ℕ) → row < length (contentsOf b .offers) → SoundOffer (offerAt (contentsOf b .offers) row)
-  sound-offers = rows-sound false (offerAt (contentsOf b .offers)) (length (contentsOf b .offers)) sound-rows
+  sound-offers = rows-sound false (contentsOf b .edition) (offerAt (contentsOf b .offers)) (length (contentsOf b .offers)) sound-rows
 
-  -- Its resource numbers differ from row to row.
+  -- No two of its rows have one resource number and one step.
   pub sound-distinct : (row other : ℕ) → row < length (contentsOf b .offers) → other < length (contentsOf b .offers)
-      → offerAt (contentsOf b .offers) row .resource ≡ offerAt (contentsOf b .offers) other .resource → row ≡ other
-  sound-distinct = rows-distinct false (offerAt (contentsOf b .offers)) (length (contentsOf b .offers)) sound-rows
+      → offerAt (contentsOf b .offers) row .resource ≡ offerAt (contentsOf b .offers) other .resource
+      → offerAt (contentsOf b .offers) row .step ≡ offerAt (contentsOf b .offers) other .step
+      → row ≡ other
+  sound-distinct = rows-distinct false (contentsOf b .edition) (offerAt (contentsOf b .offers)) (length (contentsOf b .offers)) sound-rows

@@ -2,4 +2,5 @@ pub mod Values
 pub mod Stages
 pub mod Unpriced
 pub mod Accepted
+pub mod Editions
 pub mod Decided

@@ -16,7 +16,7 @@ use Rattle.values.proofs.Firsts.{andThen-next, andThen-refused, andThen-left, a
 use Rattle.limits.specs.Parameters.{rangeFault}
 use Rattle.limits.specs.Given.{parametersFault}
 use Rattle.limits.specs.Offers.{rowsFault}
-use Rattle.layout.specs.Form.{lengthFault, checkFault, layoutFault, formFault, offerCount}
+use Rattle.layout.specs.Form.{lengthFault, checkFault, layoutFault, formFault, editionOf, offerCount}
 use Rattle.layout.specs.Read.{rowOffers, contentsOf}
 use Rattle.layout.specs.inner.Read.{Inside}
 use Rattle.layout.proofs.Passing.{form-passed-count, form-passed-row}
@@ -32,15 +32,15 @@ andThen-assoc (Refused number place) v w = refl
 
 -- the first fault of the rows of what a book says, where prices are needed or not
 abbrev pub bookRows : Bool → List ℕ → Verdict
-bookRows needed b = rowsFault needed (offerAt (contentsOf b .offers)) (length (contentsOf b .offers))
+bookRows needed b = rowsFault needed (contentsOf b .edition) (offerAt (contentsOf b .offers)) (length (contentsOf b .offers))
 
--- as the code reads them, by the count that block 0 states
-pub rows-own : (needed : Bool) (b : List ℕ) (n : ℕ) → n ≡ offerCount b
-    → rowsFault needed (offerAt (rowOffers b 1 n)) n ≡ bookRows needed b
+-- as the code reads them, by the edition and the count that block 0 states
+pub rows-own : (needed : Bool) (b : List ℕ) (edition n : ℕ) → edition ≡ editionOf b → n ≡ offerCount b
+    → rowsFault needed edition (offerAt (rowOffers b edition 1 n)) n ≡ bookRows needed b
 unfolding contentsOf
-rows-own needed b n e =
-    ap (λ m. rowsFault needed (offerAt (rowOffers b 1 m)) m) e
-    ∙ ap (rowsFault needed (offerAt (contentsOf b .offers))) (contents-count b)
+rows-own needed b edition n e f =
+    ap₂ (λ (k m : ℕ). rowsFault needed k (offerAt (rowOffers b k 1 m)) m) e f
+    ∙ ap (rowsFault needed (editionOf b) (offerAt (contentsOf b .offers))) (contents-count b)
 
 -- ---- what comes before the rows
 

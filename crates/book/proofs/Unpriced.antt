@@ -11,17 +11,17 @@ use Rattle.values.proofs.Firsts.{andThen-next, andThen-right, first-ext}
 use Rattle.limits.specs.Offers.{priceFault, offerFault, rowsFault}
 use Rattle.limits.proofs.PassingRows.{rows-values}
 
-offer-unpriced : (o : Offer) (row : ℕ) → offerFault true o row ≡ Passed → offerFault false o row ≡ Passed
+offer-unpriced : (edition : ℕ) (o : Offer) (row : ℕ) → offerFault true edition o row ≡ Passed → offerFault false edition o row ≡ Passed
 unfolding offerFault
-offer-unpriced o row e = andThen-right (priceFault (o .price) row) _ e
+offer-unpriced edition o row e = andThen-right (priceFault (o .price) row) _ e
 
 -- Rows that clearing's tests pass are passed by those of soundness.
-pub rows-unpriced : (offers : ℕ → Offer) (n : ℕ) → rowsFault true offers n ≡ Passed → rowsFault false offers n ≡ Passed
+pub rows-unpriced : (edition : ℕ) (offers : ℕ → Offer) (n : ℕ) → rowsFault true edition offers n ≡ Passed → rowsFault false edition offers n ≡ Passed
 unfolding rowsFault
-rows-unpriced offers n e =
+rows-unpriced edition offers n e =
     first-ext _ _ n
     (λ row l.
-    let priced : offerFault true (offers row) row ≡ Passed = rows-values true offers n e row l in
-    andThen-next (offerFault false (offers row) row) _ (offer-unpriced (offers row) row priced)
-    ∙ sym (andThen-next (offerFault true (offers row) row) _ priced))
+    let priced : offerFault true edition (offers row) row ≡ Passed = rows-values true edition offers n e row l in
+    andThen-next (offerFault false edition (offers row) row) _ (offer-unpriced edition (offers row) row priced)
+    ∙ sym (andThen-next (offerFault true edition (offers row) row) _ priced))
     ∙ e

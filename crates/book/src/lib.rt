@@ -5,6 +5,7 @@ use block::SIZE;
 use layout::form::blocks_fault;
 use layout::form::form;
 use layout::form::lengths;
+use layout::reader::edition;
 use layout::reader::offer_count;
 use limits::parameters::missing_in;
 use limits::parameters::parameter_fault;
@@ -18,9 +19,10 @@ ghost use Rattle.layout.specs.Form.{lengthFault};
 ghost use Rattle.book.specs.Faults.{firstFault, soundFault};
 ghost use Rattle.book.specs.inner.Opening.{OpensAs};
 
-// What a book says before its rows: the first fault of it, the parameters, and how many rows follow.
+// What a book says before its rows: the first fault of it, the edition, the parameters, and how many rows follow.
 pub struct Opening {
     pub fault: Verdict,
+    pub edition: u32,
     pub parameters: Parameters,
     pub rows: u32,
 }
@@ -35,12 +37,13 @@ pub fn opened(book: &[u8]) -> Opening
     let tested = and_then(missing_in(head), parameter_fault(parameters));
     Opening {
         fault: and_then(blocks_fault(book), tested),
+        edition: edition(book),
         parameters,
         rows: offer_count(book),
     }
 }
 
-// The first fault of a book that is to be cleared: 1, 2, 3, then 4, then 5, then the rows' 6, 7, 8.
+// The first fault of a book that is to be cleared: 1, 2, 3, then 4, then 5, then the rows' 6, 7, 8, 10.
 pub fn verdict(book: &[u8]) -> Verdict
     ensures { λ r. ⌜ r ≡ firstFault (now (book .entry)) ⌝ }
 {
@@ -52,10 +55,10 @@ pub fn verdict(book: &[u8]) -> Verdict
     if let Verdict::Refused(number, place) = fault {
         return Verdict::Refused(number, place);
     }
-    rows::rows_fault(book, head.rows, true)
+    rows::rows_fault(book, head.edition, head.rows, true)
 }
 
-// The first fault by which a book is not sound: 1, 2, 3, then 5, 7 and 8 on what is given.
+// The first fault by which a book is not sound: 1, 2, 3, then 5, 7, 8 and 10 on what is given.
 pub fn soundness(book: &[u8]) -> Verdict
     ensures { λ r. ⌜ r ≡ soundFault (now (book .entry)) ⌝ }
 {
@@ -65,5 +68,5 @@ pub fn soundness(book: &[u8]) -> Verdict
     if let Verdict::Refused(number, place) = parameter_fault(parameters_in(&book[0..SIZE])) {
         return Verdict::Refused(number, place);
     }
-    rows::rows_fault(book, offer_count(book), false)
+    rows::rows_fault(book, edition(book), offer_count(book), false)
 }

@@ -44,6 +44,7 @@ module _ (c c′ : Contents) (s : SameButBlocks c c′) where
         quantity = row-agree (λ o. o .quantity) (λ o o′ e. e .quantity) i;
         stamp = row-agree (λ o. o .stamp) (λ o o′ e. e .stamp) i;
         resource = row-agree (λ o. o .resource) (λ o o′ e. e .resource) i;
+        step = row-agree (λ o. o .step) (λ o o′ e. e .step) i;
       }
 
   total-same : total c ≡ total c′

@@ -1,6 +1,6 @@
 -- What each way through the call shows.
 --
--- In order: a book whose parameters and number of rows have passed; the fault of a call; buffers that are long enough; what a
+-- In order: a book whose edition, parameters and number of rows have passed; the fault of a call; buffers that are long enough; what a
 -- call with no fault may count on; a refusal's outcome and a clearing's; the answer with no buffers.
 -- Assumes nothing.
 use mathlib.Core.Path.{_≡_, refl, sym, ap, ap₂, subst, subst₂, _∙_}
@@ -19,10 +19,10 @@ use Rattle.values.specs.declared.place.Offer.{Offer}
 use Rattle.values.specs.declared.head.Parameters.{Parameters}
 use Rattle.values.proofs.Firsts.{andThen-next, andThen-refused, andThen-left, andThen-right, unless-true, unless-passed}
 use Rattle.limits.specs.Offers.{rowsFault}
-use Rattle.layout.specs.Form.{offerCount}
+use Rattle.layout.specs.Form.{editionOf, offerCount}
 use Rattle.layout.specs.Read.{rowOffers, contentsOf}
 use Rattle.layout.specs.inner.Read.{Inside}
-use Rattle.layout.proofs.Contained.{contents-offers, contents-count}
+use Rattle.layout.proofs.Contained.{contents-edition, contents-offers, contents-count}
 use Rattle.columns.specs.inner.Columns.{Columns, Blank, Listed}
 use Rattle.columns.proofs.Offers.{blank-listed}
 use Rattle.book.specs.Faults.{firstFault}
@@ -38,34 +38,37 @@ use Rattle.call.specs.Answer.{Outcome, answerOf, answerBy, bufferFault, 
 use Rattle.call.specs.declared.Answer.{Answer}
 use Rattle.call.specs.declared.Answer.the-variants.{Cleared as Answer·Cleared, Refused as Answer·Refused}
 
--- ---- parameters and a number of rows that passed
+-- ---- an edition, parameters and a number of rows that passed
 
-module _ (b : List ℕ) (p : Parameters) (n : ℕ) (o : Opened b p n) where
+module _ (b : List ℕ) (edition : ℕ) (p : Parameters) (n : ℕ) (o : Opened b edition p n) where
   opened-count : n ≡ offerCount b
   opened-count = o .rows ∙ sym (contents-count b)
 
   pub opened-inside : Inside b 1 n
   opened-inside = subst (Inside b 1) (sym opened-count) (form-inside b (before-form b (o .passed)))
 
-  opened-offers : rowOffers b 1 n ≡ contentsOf b .offers
-  opened-offers = ap (rowOffers b 1) opened-count ∙ contents-offers b
+  opened-edition : edition ≡ editionOf b
+  opened-edition = o .edition ∙ sym (contents-edition b)
+
+  opened-offers : rowOffers b edition 1 n ≡ contentsOf b .offers
+  opened-offers = ap₂ (λ (e m : ℕ). rowOffers b e 1 m) opened-edition opened-count ∙ contents-offers b
 
   -- the rows decide, and then the buffers
   pub fault-rows : (cleared committed : ℕ) (found short v : Verdict)
-      → found ≡ rowsFault true (offerAt (rowOffers b 1 n)) (length (rowOffers b 1 n))
+      → found ≡ rowsFault true edition (offerAt (rowOffers b edition 1 n)) (length (rowOffers b edition 1 n))
       → short ≡ bufferFault n cleared committed → v ≡ andThen found short → v ≡ callFault b cleared committed
   unfolding callFault
   fault-rows cleared committed found short v f g h =
       h
       ∙ ap₂ andThen
       (f
-      ∙ ap (λ (offers : List Offer). rowsFault true (offerAt offers) (length offers)) opened-offers
+      ∙ ap₂ (λ (e : ℕ) (offers : List Offer). rowsFault true e (offerAt offers) (length offers)) (o .edition) opened-offers
       ∙ sym (first-before b ∙ andThen-next (beforeRows b) _ (o .passed)))
       (g ∙ ap (λ m. bufferFault m cleared committed) (o .rows))
 
   -- rows that passed stand in the columns as what the book says
   pub opened-stands : (before after : Columns) (found : Verdict) → firstFault b ≡ Passed → Blank n before
-      → RowsRead true (rowOffers b 1 n) found before after → found ≡ Passed → Stands (contentsOf b) p n after
+      → RowsRead true edition (rowOffers b edition 1 n) found before after → found ≡ Passed → Stands (contentsOf b) p n after
   opened-stands before after found accepted blank read passed =
       record {
         own = o .parameters;
@@ -73,8 +76,8 @@ module _ (b : List ℕ) (p : Parameters) (n : ℕ) (o : Opened b p n) where
         clearable = accepted-clearable b accepted;
         listed =
             blank-listed (contentsOf b .offers) n before after (o .rows) blank
-            (rows-stored true (contentsOf b .offers)
-            (subst₂ (λ (offers : List Offer) (v : Verdict). RowsRead true offers v before after) opened-offers passed read));
+            (rows-stored true edition (contentsOf b .offers)
+            (subst₂ (λ (offers : List Offer) (v : Verdict). RowsRead true edition offers v before after) opened-offers passed read));
       }
 
 -- ---- the fault of a call

@@ -26,7 +26,7 @@ pub call-outcome : (κs : Lfts 3) (book cleared committed cleared′ committed�
 call-outcome κs book cleared committed cleared′ committed′ a called = called
 
 -- two outcomes of the same book and buffers
-outcome-same : (b cleared committed : List ℕ) (r s : Answer) (cleared₁ committed₁ cleared₂ committed₂ : List ℕ)
+pub outcome-same : (b cleared committed : List ℕ) (r s : Answer) (cleared₁ committed₁ cleared₂ committed₂ : List ℕ)
     → Outcome b cleared committed r cleared₁ committed₁
     → Outcome b cleared committed s cleared₂ committed₂
     → (r ≡ s) × (cleared₁ ≡ cleared₂) × (committed₁ ≡ committed₂)

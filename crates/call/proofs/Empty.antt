@@ -87,21 +87,22 @@ module _ (c : Contents) (empty : length (c .offers) ≡ 0) where
       }
 
 -- a book of no rows whose parameters passed has no fault, whatever the buffers
-fault-empty : (b : List ℕ) (p : Parameters) (n cleared committed : ℕ) → Opened b p n → n ≡ 0
+fault-empty : (b : List ℕ) (edition : ℕ) (p : Parameters) (n cleared committed : ℕ) → Opened b edition p n → n ≡ 0
     → Passed ≡ callFault b cleared committed
 unfolding callFault rowsFault
-fault-empty b p n cleared committed o z =
+fault-empty b edition p n cleared committed o z =
     let empty : length (contentsOf b .offers) ≡ 0 = sym (o .rows) ∙ z in
-    let rows = ap (λ (m : ℕ). rowsFault true (offerAt (contentsOf b .offers)) m) empty ∙ first-zero _ in
+    let rows = ap (λ (m : ℕ). rowsFault true (contentsOf b .edition) (offerAt (contentsOf b .offers)) m) empty ∙ first-zero _ in
     sym
     (andThen-next (firstFault b) _ (first-before b ∙ andThen-next (beforeRows b) _ (o .passed) ∙ rows)
     ∙ long-enough b cleared committed (omega (arith, empty)) (omega (arith, empty)))
 
 -- the outcome of a call on such a book
-pub outcome-empty : (b cleared committed : List ℕ) (p : Parameters) (n : ℕ) (k : Clearing) → Opened b p n → n ≡ 0 → k ≡ noneCleared
+pub outcome-empty : (b cleared committed : List ℕ) (edition : ℕ) (p : Parameters) (n : ℕ) (k : Clearing) → Opened b edition p n → n ≡ 0
+    → k ≡ noneCleared
     → Outcome b cleared committed (Answer·Cleared k) cleared committed
-outcome-empty b cleared committed p n k o z e =
+outcome-empty b cleared committed edition p n k o z e =
     subst (λ (r : Clearing). Outcome b cleared committed (Answer·Cleared r) cleared committed) (sym e)
     (outcome-cleared b cleared committed noneCleared cleared committed
-    (fault-empty b p n (length cleared) (length committed) o z)
+    (fault-empty b edition p n (length cleared) (length committed) o z)
     (cleared-empty (contentsOf b) (sym (o .rows) ∙ z) cleared committed))

@@ -11,3 +11,6 @@ pub mod OneMore
 pub mod Shared
 pub mod SameSales
 pub mod Losers
+pub mod Together
+pub mod Steps
+pub mod EitherEdition

@@ -33,7 +33,7 @@ use Rattle.call.specs.Losers.{toPrice, atOrBelow, Line}
 
 -- an offer as a row of an auction
 abbrev pub asRow : Offer → Row
-asRow o = record { price = held (o .price); quantity = o .quantity; stamp = o .stamp; resource = o .resource }
+asRow o = record { price = held (o .price); quantity = o .quantity; stamp = o .stamp; resource = o .resource; step = o .step }
 
 -- a price that is p or less holds no more than p
 pub toPrice-most : (p : ℕ) (v : Value) → toPrice p v ≡ true → held v ≤ p

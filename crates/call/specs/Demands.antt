@@ -25,6 +25,7 @@ pub record SameOffer (o o′ : Offer) : Type 0 where
   pub quantity : o .quantity ≡ o′ .quantity
   pub stamp : o .stamp ≡ o′ .stamp
   pub resource : o .resource ≡ o′ .resource
+  pub step : o .step ≡ o′ .step
 
 -- the same parameters and, row for row, the same offers but for their minimum blocks
 pub record SameButBlocks (c c′ : Contents) : Type 0 where

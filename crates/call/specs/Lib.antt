@@ -1,4 +1,5 @@
 pub mod Answer
 pub mod Demands
 pub mod Losers
+pub mod Steps
 pub mod inner

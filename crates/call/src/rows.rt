@@ -29,9 +29,10 @@ fn buffer_fault(offers: usize, cleared: usize, committed: usize) -> Verdict
     Verdict::Passed
 }
 
-// Clears a book whose parameters and number of rows have passed. Its rows are read once, into columns that are blank.
+// Clears a book whose edition, parameters and number of rows have passed. Its rows are read once, into columns that are blank.
 fn clear_rows(
     book: &[u8],
+    edition: u32,
     p: Parameters,
     rows: u32,
     prices: &mut [u32],
@@ -39,17 +40,19 @@ fn clear_rows(
     leasts: &mut [u32],
     resources: &mut [u32],
     stamps: &mut [u64],
+    steps: &mut [u32],
     cleared: &mut [u32],
     committed: &mut [u32],
 ) -> Answer
-    requires { ⌜ Opened (now book) p rows ⌝ }
-    requires { ⌜ Blank rows (columnsOf (now prices) (now quantities) (now leasts) (now resources) (now stamps)) ⌝ }
+    requires { ⌜ Opened (now book) edition p rows ⌝ }
+    requires { ⌜ Blank rows (columnsOf (now prices) (now quantities) (now leasts) (now resources) (now stamps) (now steps)) ⌝ }
     ensures { λ r. ⌜ Outcome (now (book .entry)) (now (cleared .entry)) (now (committed .entry)) r (now (cleared .exit)) (now (committed .exit)) ⌝ }
 {
     let n = rows as usize;
     let short = buffer_fault(n, cleared.len(), committed.len());
     let found = read_rows(
         book,
+        edition,
         1,
         rows,
         true,
@@ -58,6 +61,7 @@ fn clear_rows(
         leasts,
         resources,
         stamps,
+        steps,
     );
     if let Verdict::Refused(number, place) = and_then(found, short) {
         return Answer::Refused(number, place);
@@ -70,6 +74,7 @@ fn clear_rows(
         leasts,
         resources,
         stamps,
+        steps,
         cleared,
         committed,
     ))
@@ -91,12 +96,13 @@ fn clear_none() -> Clearing
 // Clears a book of any number of rows.
 fn clear_many(
     book: &[u8],
+    edition: u32,
     p: Parameters,
     rows: u32,
     cleared: &mut [u32],
     committed: &mut [u32],
 ) -> Answer
-    requires { ⌜ Opened (now book) p rows ⌝ }
+    requires { ⌜ Opened (now book) edition p rows ⌝ }
     ensures { λ r. ⌜ Outcome (now (book .entry)) (now (cleared .entry)) (now (committed .entry)) r (now (cleared .exit)) (now (committed .exit)) ⌝ }
 {
     let mut prices = [0u32; 600];
@@ -104,8 +110,10 @@ fn clear_many(
     let mut leasts = [0u32; 600];
     let mut resources = [0u32; 600];
     let mut stamps = [0u64; 600];
+    let mut steps = [0u32; 600];
     clear_rows(
         book,
+        edition,
         p,
         rows,
         &mut prices,
@@ -113,6 +121,7 @@ fn clear_many(
         &mut leasts,
         &mut resources,
         &mut stamps,
+        &mut steps,
         cleared,
         committed,
     )
@@ -128,10 +137,11 @@ pub(crate) fn clear_measured(book: &[u8], cleared: &mut [u32], committed: &mut [
     if let Verdict::Refused(number, place) = fault {
         return Answer::Refused(number, place);
     }
+    let edition = head.edition;
     let p = head.parameters;
     let rows = head.rows;
     if rows == 0 {
         return Answer::Cleared(clear_none());
     }
-    clear_many(book, p, rows, cleared, committed)
+    clear_many(book, edition, p, rows, cleared, committed)
 }

@@ -19,7 +19,7 @@ use Rattle.auction.specs.Offers.{Offers}
 use Rattle.values.specs.Values.{held}
 use Rattle.values.specs.Contents.{noOffer, offerAt}
 use Rattle.values.specs.declared.place.Offer.{Offer}
-use Rattle.columns.specs.inner.Column.{rowPrice, rowQuantity, rowStamp, rowResource, Column, rowsOf}
+use Rattle.columns.specs.inner.Column.{rowPrice, rowQuantity, rowStamp, rowResource, rowStep, Column, rowsOf}
 use Rattle.columns.specs.inner.Columns.{Columns, empty, Blank, Room, ColumnsRead, Listed}
 
 module _ (value : ℕ → ℕ) {n m : ℕ} {after : List ℕ} (column : Column value n (zeros m) after) (enough : n ≤ m) where
@@ -49,11 +49,12 @@ offersBy offers =
       quantity = rowQuantity offers;
       stamp = rowStamp offers;
       resource = rowResource offers;
+      step = rowStep offers;
     }
 
 -- all offers in columns are those of the auction
 pub listed-offers : (offers : List Offer) (v : Columns) → Listed offers v
-    → rowsOf (v .prices) (v .quantities) (v .stamps) (v .resources) (length offers) ≡ offersBy offers
+    → rowsOf (v .prices) (v .quantities) (v .stamps) (v .resources) (v .steps) (length offers) ≡ offersBy offers
 listed-offers offers v l =
     λ i.
     record {
@@ -62,13 +63,14 @@ listed-offers offers v l =
       quantity = column-all offers (λ o. o .quantity) refl (l .read .quantity) (l .enough) i;
       stamp = column-all offers (λ o. o .stamp) refl (l .read .stamp) (l .enough) i;
       resource = column-all offers (λ o. o .resource) refl (l .read .resource) (l .enough) i;
+      step = column-all offers (λ o. o .step) refl (l .read .step) (l .enough) i;
     }
 
 -- columns of zeros have a place for every row
 zeros-room : (n m : ℕ) → n ≤ m → Room n (empty m)
 zeros-room n m l =
     let long : n ≤ length (zeros m) = omega (arith, length-zeros m) in
-    record { price = long; quantity = long; least = long; resource = long; stamp = long }
+    record { price = long; quantity = long; least = long; resource = long; stamp = long; step = long }
 
 pub blank-room : (n : ℕ) (v : Columns) → Blank n v → Room n v
 blank-room n v b = subst (Room n) (sym (b .zeros)) (zeros-room n (b .room) (b .enough))

@@ -9,7 +9,7 @@ use Rattle.values.specs.Values.{held}
 use Rattle.values.specs.inner.Values.{leastOf}
 use Rattle.values.specs.Contents.{offerAt}
 use Rattle.values.specs.declared.place.Offer.{Offer}
-use Rattle.columns.specs.inner.Column.{rowPrice, rowQuantity, rowLeast, rowResource, rowStamp}
+use Rattle.columns.specs.inner.Column.{rowPrice, rowQuantity, rowLeast, rowResource, rowStamp, rowStep}
 use Rattle.columns.specs.inner.Columns.{Columns, columnsOf, ColumnsRead}
 
 -- before the first row each column is as it was
@@ -21,13 +21,14 @@ columns-none offers lists =
       least = filled-none (rowLeast offers) (lists .leasts);
       resource = filled-none (rowResource offers) (lists .resources);
       stamp = filled-none (rowStamp offers) (lists .stamps);
+      step = filled-none (rowStep offers) (lists .steps);
     }
 
 -- the columns with an offer, the price that it holds and the least that it commits, stored at a row
 abbrev pub stored : Columns → ℕ → Offer → ℕ → ℕ → Columns
 stored lists row o price least =
     columnsOf (set (lists .prices) row price) (set (lists .quantities) row (o .quantity)) (set (lists .leasts) row least)
-    (set (lists .resources) row (o .resource)) (set (lists .stamps) row (o .stamp))
+    (set (lists .resources) row (o .resource)) (set (lists .stamps) row (o .stamp)) (set (lists .steps) row (o .step))
 
 -- a row's offer, stored into each column, adds the row
 pub columns-more : (offers : List Offer) (row : ℕ) {before after : Columns} {o : Offer} {price least : ℕ}
@@ -40,6 +41,7 @@ columns-more offers row read e p l =
       least = filled-more (rowLeast offers) row _ (read .least) (l ∙ ap (λ o. leastOf (o .block)) e);
       resource = filled-more (rowResource offers) row _ (read .resource) (ap (λ o. o .resource) e);
       stamp = filled-more (rowStamp offers) row _ (read .stamp) (ap (λ o. o .stamp) e);
+      step = filled-more (rowStep offers) row _ (read .step) (ap (λ o. o .step) e);
     }
 
 -- after as many rows as there are, all are read

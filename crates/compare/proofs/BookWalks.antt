@@ -10,6 +10,7 @@ use native.Mathlib.Omega.{arith}
 use lib.ListN.{length}
 use Rattle.values.specs.Contents.{offerAt}
 use Rattle.values.specs.declared.place.Offer.{Offer}
+use Rattle.layout.specs.Form.{editionOf}
 use Rattle.layout.specs.Read.{rowOffer, rowOffers}
 use Rattle.layout.proofs.Contained.{length-rowOffers, offerAt-rowOffers}
 use Rattle.compare.specs.Same.{sameOffer}
@@ -20,10 +21,10 @@ use Rattle.compare.proofs.Walks.{Walked, walked-none, walked-more, walk
 
 module _ (p : ℕ) (b : List ℕ) (n : ℕ) (b′ : List ℕ) (m : ℕ) where
   abbrev xs : List Offer
-  xs = rowOffers b 1 n
+  xs = rowOffers b (editionOf b) 1 n
 
   abbrev ys : List Offer
-  ys = rowOffers b′ 1 m
+  ys = rowOffers b′ (editionOf b′) 1 m
 
   -- both books are walked up to the rows i and j
   pub record Walk (i j shared : ℕ) : Type 0 where
@@ -36,8 +37,8 @@ module _ (p : ℕ) (b : List ℕ) (n : ℕ) (b′ : List ℕ) (m : ℕ) where
   walk-of i j shared w =
       record {
         few = w .few;
-        most = omega (arith, w .most, length-rowOffers b 1 n);
-        most′ = omega (arith, w .most′, length-rowOffers b′ 1 m);
+        most = omega (arith, w .most, length-rowOffers b (editionOf b) 1 n);
+        most′ = omega (arith, w .most′, length-rowOffers b′ (editionOf b′) 1 m);
         walked = w;
       }
 
@@ -46,26 +47,26 @@ module _ (p : ℕ) (b : List ℕ) (n : ℕ) (b′ : List ℕ) (m : ℕ) where
 
   module _ (i j shared : ℕ) (w : Walk i j shared) where
     inside : i < n → i < length xs
-    inside l = omega (arith, length-rowOffers b 1 n)
+    inside l = omega (arith, length-rowOffers b (editionOf b) 1 n)
 
     inside′ : j < m → j < length ys
-    inside′ l = omega (arith, length-rowOffers b′ 1 m)
+    inside′ l = omega (arith, length-rowOffers b′ (editionOf b′) 1 m)
 
     outside : n ≤ i → length xs ≤ i
-    outside l = omega (arith, length-rowOffers b 1 n)
+    outside l = omega (arith, length-rowOffers b (editionOf b) 1 n)
 
     outside′ : m ≤ j → length ys ≤ j
-    outside′ l = omega (arith, length-rowOffers b′ 1 m)
+    outside′ l = omega (arith, length-rowOffers b′ (editionOf b′) 1 m)
 
-    own : (t : Bool) → i < n → j < m → t ≡ sameOffer (rowOffer b 1 i) (rowOffer b′ 1 j) → sameOffer (offerAt xs i) (offerAt ys j) ≡ t
-    own t l k e = ap₂ sameOffer (offerAt-rowOffers b 1 n i l) (offerAt-rowOffers b′ 1 m j k) ∙ sym e
+    own : (t : Bool) → i < n → j < m → t ≡ sameOffer (rowOffer b (editionOf b) 1 i) (rowOffer b′ (editionOf b′) 1 j) → sameOffer (offerAt xs i) (offerAt ys j) ≡ t
+    own t l k e = ap₂ sameOffer (offerAt-rowOffers b (editionOf b) 1 n i l) (offerAt-rowOffers b′ (editionOf b′) 1 m j k) ∙ sym e
 
-    pub walk-more : (i′ j′ : ℕ) (t : Bool) → i < n → j < m → t ≡ sameOffer (rowOffer b 1 i) (rowOffer b′ 1 j) → t ≡ true
+    pub walk-more : (i′ j′ : ℕ) (t : Bool) → i < n → j < m → t ≡ sameOffer (rowOffer b (editionOf b) 1 i) (rowOffer b′ (editionOf b′) 1 j) → t ≡ true
         → NextTo p xs (suc i) i′ → NextTo p ys (suc j) j′ → Walk i′ j′ (suc shared)
     walk-more i′ j′ t l k e f s u =
         walk-of i′ j′ (suc shared) (walked-more p xs ys i j shared (w .walked) i′ j′ (inside l) (inside′ k) (own t l k e ∙ f) s u)
 
-    pub walk-differ : (t : Bool) → i < n → j < m → t ≡ sameOffer (rowOffer b 1 i) (rowOffer b′ 1 j) → t ≡ false
+    pub walk-differ : (t : Bool) → i < n → j < m → t ≡ sameOffer (rowOffer b (editionOf b) 1 i) (rowOffer b′ (editionOf b′) 1 j) → t ≡ false
         → OffersDiffer i j ≡ offersCompared p xs ys
     walk-differ t l k e f = walked-differ p xs ys i j shared (w .walked) (inside l) (inside′ k) (own t l k e ∙ f)
 

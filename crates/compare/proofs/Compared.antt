@@ -14,7 +14,7 @@ use Rattle.values.specs.declared.Verdict.the-variants.{Passed, Refused}
 use Rattle.market.specs.declared.price.ClearingPrice.{ClearingPrice}
 use Rattle.market.specs.declared.price.ClearingPrice.the-variants.{Price, NoPrice}
 use Rattle.units.specs.declared.CentsPerMwDay.{CentsPerMwDay}
-use Rattle.layout.specs.Form.{offerCount}
+use Rattle.layout.specs.Form.{editionOf, offerCount}
 use Rattle.layout.specs.Read.{rowOffers, contentsOf}
 use Rattle.layout.specs.inner.Read.{Inside}
 use Rattle.layout.proofs.Passing.{form-passed-length}
@@ -51,9 +51,9 @@ module _ (p : ℕ) (c c′ : Contents) (field : ℕ) (e : field ≡ fieldApart (
 
 -- the offers of two books, as many as each states
 pub offers-own : (p : ℕ) (b b′ : List ℕ) (n m : ℕ) → n ≡ offerCount b → m ≡ offerCount b′
-    → offersCompared p (rowOffers b 1 n) (rowOffers b′ 1 m) ≡ offersCompared p (contentsOf b .offers) (contentsOf b′ .offers)
+    → offersCompared p (rowOffers b (editionOf b) 1 n) (rowOffers b′ (editionOf b′) 1 m) ≡ offersCompared p (contentsOf b .offers) (contentsOf b′ .offers)
 offers-own p b b′ n m e f =
-    ap₂ (offersCompared p) (ap (rowOffers b 1) e ∙ contents-offers b) (ap (rowOffers b′ 1) f ∙ contents-offers b′)
+    ap₂ (offersCompared p) (ap (rowOffers b (editionOf b) 1) e ∙ contents-offers b) (ap (rowOffers b′ (editionOf b′) 1) f ∙ contents-offers b′)
 
 -- ---- an accepted book against another
 

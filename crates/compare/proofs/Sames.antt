@@ -38,13 +38,15 @@ offer-same o other e =
     let e₂ = and-right (eqb (o .seller) (other .seller)) _ e₁ in
     let e₃ = and-right (sameValue (o .price) (other .price)) _ e₂ in
     let e₄ = and-right (eqb (o .quantity) (other .quantity)) _ e₃ in
+    let e₅ = and-right (sameValue (o .block) (other .block)) _ e₄ in
     λ i. record {
       resource = eqb-true (o .resource) (other .resource) (and-left (eqb (o .resource) (other .resource)) _ e) i;
       seller = eqb-true (o .seller) (other .seller) (and-left (eqb (o .seller) (other .seller)) _ e₁) i;
       price = value-same (o .price) (other .price) (and-left (sameValue (o .price) (other .price)) _ e₂) i;
       quantity = eqb-true (o .quantity) (other .quantity) (and-left (eqb (o .quantity) (other .quantity)) _ e₃) i;
       block = value-same (o .block) (other .block) (and-left (sameValue (o .block) (other .block)) _ e₄) i;
-      stamp = eqb-true (o .stamp) (other .stamp) (and-right (sameValue (o .block) (other .block)) _ e₄) i;
+      stamp = eqb-true (o .stamp) (other .stamp) (and-left (eqb (o .stamp) (other .stamp)) _ e₅) i;
+      step = eqb-true (o .step) (other .step) (and-right (eqb (o .stamp) (other .stamp)) _ e₅) i;
     }
 
 -- an offer passes beside itself
@@ -54,12 +56,14 @@ offer-self o =
     and-true _ _ (eqb-self (o .resource))
     (and-true _ _ (eqb-self (o .seller))
     (and-true _ _ (value-self (o .price))
-    (and-true _ _ (eqb-self (o .quantity)) (and-true _ _ (value-self (o .block)) (eqb-self (o .stamp))))))
+    (and-true _ _ (eqb-self (o .quantity))
+    (and-true _ _ (value-self (o .block)) (and-true _ _ (eqb-self (o .stamp)) (eqb-self (o .step)))))))
 
--- the six tests, one after the other
+-- the seven tests, one after the other
 pub offer-tests : (o other : Offer) (price block : Bool) → price ≡ sameValue (o .price) (other .price) → block ≡ sameValue (o .block) (other .block)
-    → ((((eqb (o .resource) (other .resource) && eqb (o .seller) (other .seller)) && price) && eqb (o .quantity) (other .quantity)) && block)
-    && eqb (o .stamp) (other .stamp)
+    → (((((eqb (o .resource) (other .resource) && eqb (o .seller) (other .seller)) && price) && eqb (o .quantity) (other .quantity)) && block)
+    && eqb (o .stamp) (other .stamp))
+    && eqb (o .step) (other .step)
     ≡ sameOffer o other
 unfolding sameOffer
 offer-tests o other price block e f = simp (and-assoc, e, f)

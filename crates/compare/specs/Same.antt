@@ -15,7 +15,7 @@ sameValue (Given number) Missing = false
 sameValue Missing (Given other) = false
 sameValue Missing Missing = true
 
--- the same resource, seller, price, quantity, minimum block and time stamp
+-- the same resource, seller, price, quantity, minimum block, time stamp and step
 unfoldable pub sameOffer : Offer → Offer → Bool
 sameOffer o other =
     eqb (o .resource) (other .resource)
@@ -23,7 +23,8 @@ sameOffer o other =
     && (sameValue (o .price) (other .price)
     && (eqb (o .quantity) (other .quantity)
     && (sameValue (o .block) (other .block)
-    && eqb (o .stamp) (other .stamp)))))
+    && (eqb (o .stamp) (other .stamp)
+    && eqb (o .step) (other .step))))))
 
 -- the first field in which parameters differ: 1 delivery year, 2 C, 3 E, 4 F, 5 R, 6 the reserve margin; 0 where they are the same
 unfoldable pub fieldApart : Parameters → Parameters → ℕ

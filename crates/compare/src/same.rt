@@ -37,7 +37,7 @@ fn same_value(v: Value, w: Value) -> bool
     }
 }
 
-// Whether two offers have the same six values.
+// Whether two offers have the same seven values.
 pub(crate) fn same_offer(o: Offer, other: Offer) -> bool
     ensures { λ r. ⌜ r ≡ sameOffer o other ⌝ }
 {
@@ -51,6 +51,7 @@ pub(crate) fn same_offer(o: Offer, other: Offer) -> bool
         & (o.quantity == other.quantity)
         & same_value(block, other_block)
         & (o.stamp == other.stamp)
+        & (o.step == other.step)
 }
 
 // The field where two values differ, and else what comes next.

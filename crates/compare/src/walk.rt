@@ -1,11 +1,14 @@
 // The offers at or below a price of two books, walked side by side.
 use crate::Comparison;
 use crate::same::same_offer;
+use layout::reader::edition;
 use layout::reader::row_bytes;
 use values::Value;
+use values::place::Offer;
 use values::place::offer_in;
 ghost use mathlib.Core.Path.{_≡_};
 ghost use Prim.Native.Nat.{_≤_};
+ghost use Rattle.layout.specs.Form.{editionOf};
 ghost use Rattle.layout.specs.Read.{rowOffer, rowOffers};
 ghost use Rattle.layout.specs.inner.Read.{Inside};
 ghost use Rattle.call.specs.Losers.{toPrice};
@@ -23,14 +26,22 @@ fn to_price(v: Value, price: u32) -> bool
     }
 }
 
+// The offer of a row, by the rule of the book's edition.
+fn offer_at(book: &[u8], row: usize) -> Offer
+    requires { ⌜ HasRow (now book) row ⌝ }
+    ensures { λ r. ⌜ r ≡ rowOffer (now (book .entry)) (editionOf (now (book .entry))) 1 row ⌝ }
+{
+    offer_in(row_bytes(book, 1, row), edition(book))
+}
+
 // The first row, from a row on, whose offer is at or below the price; n where there is none.
 fn next_row(price: u32, book: &[u8], n: usize, from: usize) -> usize
     requires { ⌜ Inside (now book) 1 n × (from ≤ n) ⌝ }
-    ensures { λ r. ⌜ NextTo price (rowOffers (now (book .entry)) 1 n) from r ⌝ }
+    ensures { λ r. ⌜ NextTo price (rowOffers (now (book .entry)) (editionOf (now (book .entry))) 1 n) from r ⌝ }
 {
     let mut row = from;
     while row < n {
-        let o = offer_in(row_bytes(book, 1, row));
+        let o = offer_at(book, row);
         let asked = o.price;
         if to_price(asked, price) {
             return row;
@@ -43,11 +54,10 @@ fn next_row(price: u32, book: &[u8], n: usize, from: usize) -> usize
 // Whether a row of one book holds the same offer as a row of another.
 fn same_rows(first: &[u8], i: usize, second: &[u8], j: usize) -> bool
     requires { ⌜ HasRow (now first) i × HasRow (now second) j ⌝ }
-    ensures { λ r. ⌜ r ≡ sameOffer (rowOffer (now (first .entry)) 1 i) (rowOffer (now (second .entry)) 1 j) ⌝ }
+    ensures { λ r. ⌜ r ≡ sameOffer (rowOffer (now (first .entry)) (editionOf (now (first .entry))) 1 i)
+        (rowOffer (now (second .entry)) (editionOf (now (second .entry))) 1 j) ⌝ }
 {
-    let o = offer_in(row_bytes(first, 1, i));
-    let other = offer_in(row_bytes(second, 1, j));
-    same_offer(o, other)
+    same_offer(offer_at(first, i), offer_at(second, j))
 }
 
 // Compares the offers at or below the price of two books, of n rows and of m.
@@ -59,7 +69,8 @@ pub(crate) fn compare_offers(
     m: usize,
 ) -> Comparison
     requires { ⌜ Inside (now first) 1 n × Inside (now second) 1 m ⌝ }
-    ensures { λ r. ⌜ r ≡ offersCompared price (rowOffers (now (first .entry)) 1 n) (rowOffers (now (second .entry)) 1 m) ⌝ }
+    ensures { λ r. ⌜ r ≡ offersCompared price (rowOffers (now (first .entry)) (editionOf (now (first .entry))) 1 n)
+        (rowOffers (now (second .entry)) (editionOf (now (second .entry))) 1 m) ⌝ }
 {
     let mut shared: u32 = 0;
     let mut i = next_row(price, first, n, 0);

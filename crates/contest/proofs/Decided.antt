@@ -13,9 +13,9 @@ use Rattle.contest.specs.inner.Award.{Awarded}
 use Rattle.contest.proofs.award.Reads as award
 
 -- what the contest leaves of a list is one list
-awarded-alone : (k₁ k₂ k₃ k₄ entry : List ℕ) (n spare : ℕ) (exit other : List ℕ)
-    → Awarded k₁ k₂ k₃ k₄ entry n spare exit → Awarded k₁ k₂ k₃ k₄ entry n spare other → exit ≡ other
-awarded-alone k₁ k₂ k₃ k₄ entry n spare exit other a b =
+awarded-alone : (k₁ k₂ k₃ k₄ k₅ entry : List ℕ) (n spare : ℕ) (exit other : List ℕ)
+    → Awarded k₁ k₂ k₃ k₄ k₅ entry n spare exit → Awarded k₁ k₂ k₃ k₄ k₅ entry n spare other → exit ≡ other
+awarded-alone k₁ k₂ k₃ k₄ k₅ entry n spare exit other a b =
     ext-getD 0 exit other (a .rows ∙ sym (b .rows))
     (λ i h.
     by-order n i
@@ -23,9 +23,9 @@ awarded-alone k₁ k₂ k₃ k₄ entry n spare exit other a b =
     (λ l. a .within i l ∙ sym (b .within i l)))
 
 -- the standings, by the contract of `award`
-pub award-decided : (κs : Lfts 5) (k₁ k₂ k₃ k₄ standings after other : RefT (List ℕ)) (n spare : ℕ)
-    → award.Post κs (k₁, (k₂, (k₃, (k₄, (standings, (n, (spare, tt))))))) tt (k₁, (k₂, (k₃, (k₄, (after, (n, (spare, tt)))))))
-    → award.Post κs (k₁, (k₂, (k₃, (k₄, (standings, (n, (spare, tt))))))) tt (k₁, (k₂, (k₃, (k₄, (other, (n, (spare, tt)))))))
+pub award-decided : (κs : Lfts 6) (k₁ k₂ k₃ k₄ k₅ standings after other : RefT (List ℕ)) (n spare : ℕ)
+    → award.Post κs (k₁, (k₂, (k₃, (k₄, (k₅, (standings, (n, (spare, tt)))))))) tt (k₁, (k₂, (k₃, (k₄, (k₅, (after, (n, (spare, tt))))))))
+    → award.Post κs (k₁, (k₂, (k₃, (k₄, (k₅, (standings, (n, (spare, tt)))))))) tt (k₁, (k₂, (k₃, (k₄, (k₅, (other, (n, (spare, tt))))))))
     → now after ≡ now other
-award-decided κs k₁ k₂ k₃ k₄ standings after other n spare e f =
-    awarded-alone (now k₁) (now k₂) (now k₃) (now k₄) (now standings) n spare (now after) (now other) e f
+award-decided κs k₁ k₂ k₃ k₄ k₅ standings after other n spare e f =
+    awarded-alone (now k₁) (now k₂) (now k₃) (now k₄) (now k₅) (now standings) n spare (now after) (now other) e f

@@ -85,23 +85,25 @@ fn settle(standings: &mut [u32], n: usize, left: u32)
     }
 }
 
-// Gives each of `spare` tenths to a row that contends, at 1: the lowest keys first, by four keys one after another. A row
+// Gives each of `spare` tenths to a row that contends, at 1: the lowest keys first, by five keys one after another. A row
 // that receives a tenth stands at 1 in the end, and every other at 0.
 pub fn award(
     k1: &[u32],
     k2: &[u32],
     k3: &[u32],
     k4: &[u32],
+    k5: &[u32],
     standings: &mut [u32],
     n: usize,
     spare: u32,
 )
-    requires { ⌜ Ready (now k1) (now k2) (now k3) (now k4) (now standings) n ⌝ }
-    ensures { λ r. ⌜ Awarded (now (k1 .entry)) (now (k2 .entry)) (now (k3 .entry)) (now (k4 .entry)) (now (standings .entry)) n spare (now (standings .exit)) ⌝ }
+    requires { ⌜ Ready (now k1) (now k2) (now k3) (now k4) (now k5) (now standings) n ⌝ }
+    ensures { λ r. ⌜ Awarded (now (k1 .entry)) (now (k2 .entry)) (now (k3 .entry)) (now (k4 .entry)) (now (k5 .entry)) (now (standings .entry)) n spare (now (standings .exit)) ⌝ }
 {
     let left = sift(k1, standings, n, spare);
     let left = sift(k2, standings, n, left);
     let left = sift(k3, standings, n, left);
     let left = sift(k4, standings, n, left);
+    let left = sift(k5, standings, n, left);
     settle(standings, n, left);
 }

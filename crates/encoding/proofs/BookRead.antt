@@ -16,10 +16,10 @@ use Rattle.values.specs.declared.head.Parameters.{Parameters}
 use Rattle.values.specs.declared.place.Offer.{Offer}
 use Rattle.layout.specs.Blocks.{blockCount, blockOf, placeOf, rowBytes}
 use Rattle.layout.specs.Section.{blocksFor, rowsHere, rowsHold}
-use Rattle.layout.specs.Form.{offerCount, offersSection, formFault}
+use Rattle.layout.specs.Form.{editionOf, offerCount, offersSection, formFault}
 use Rattle.layout.specs.Read.{rowOffer, contentsOf}
 use Rattle.layout.proofs.Parts.{block-length, row-length}
-use Rattle.layout.proofs.Contained.{contents-parameters, contents-count, contents-offer}
+use Rattle.layout.proofs.Contained.{contents-edition, contents-parameters, contents-count, contents-offer}
 use Rattle.layout.proofs.Passing.{form-passed-head, form-passed-check, form-passed-block}
 use Rattle.layout.proofs.Passing.{form-passed-blocks, form-passed-row, form-passed-used}
 use Rattle.encoding.specs.Encode.{placeBytes, headBytes, sealed, encode}
@@ -54,17 +54,17 @@ module _ (b : List ℕ) (bytes : (i : ℕ) → i < length b → byte b i < 256) 
 
   first-back : firstBlock c ≡ blockOf b 0
   first-back =
-      ap₂ (λ (p : Parameters) (n : ℕ). sealed (headBytes p n)) (sym (contents-parameters b)) (sym (contents-count b))
+      (λ i. sealed (headBytes (sym (contents-edition b) i) (sym (contents-parameters b) i) (sym (contents-count b) i)))
       ∙ head-back (blockOf b 0) (block-whole 0 (omega arith)) (block-bytes b read 0) (blockCount b)
       (form-passed-head b passed) (block-check 0 (omega arith))
 
   -- ---- a row
 
-  row-back : (row : ℕ) → row < offerCount b → placeBytes (offerAt offers row) ≡ rowBytes b 1 row
+  row-back : (row : ℕ) → row < offerCount b → placeBytes (editionOf b) (offerAt offers row) ≡ rowBytes b 1 row
   unfolding rowOffer
   row-back row l =
-      ap placeBytes (contents-offer b row l)
-      ∙ place-read (rowBytes b 1 row) (row-length b 1 row (form-passed-row b passed row l)) (row-bytes b read 1 row)
+      ap (placeBytes (editionOf b)) (contents-offer b row l)
+      ∙ place-read (editionOf b) (rowBytes b 1 row) (row-length b 1 row (form-passed-row b passed row l)) (row-bytes b read 1 row)
       (form-passed-used b passed row l)
 
   -- ---- a block of offers
@@ -76,16 +76,16 @@ module _ (b : List ℕ) (bytes : (i : ℕ) → i < length b → byte b i < 256) 
     length-here : length here ≡ rowsHere (offerCount b) j
     length-here = length-offersHere offers j ∙ ap (λ (n : ℕ). rowsHere n j) (sym (contents-count b))
 
-    place-back : (i : ℕ) → i < length here → placeBytes (offerAt here i) ≡ placeOf (blockOf b (1 + j)) i
+    place-back : (i : ℕ) → i < length here → placeBytes (editionOf b) (offerAt here i) ≡ placeOf (blockOf b (1 + j)) i
     unfolding rowBytes
     place-back i l =
         let block : (j * 15 + i) / 15 ≡ j = omega (arith, length-here) in
         let place : (j * 15 + i) % 15 ≡ i = omega (arith, length-here) in
-        ap placeBytes (offer-here c j i (omega (arith, length-here)))
+        ap (placeBytes (editionOf b)) (offer-here c j i (omega (arith, length-here)))
         ∙ row-back (j * 15 + i) (omega (arith, length-here))
         ∙ ap₂ (λ (k n : ℕ). placeOf (blockOf b (1 + k)) n) block place
 
-    block-back : rowsBlock (1 + j) here ≡ blockOf b (1 + j)
+    block-back : rowsBlock (editionOf b) (1 + j) here ≡ blockOf b (1 + j)
     block-back =
         rows-back b (blockOf b (1 + j)) (1 + j) here
         (block-whole (1 + j) (omega arith)) (block-bytes b read (1 + j)) (offersHere-most offers j)
@@ -101,4 +101,6 @@ module _ (b : List ℕ) (bytes : (i : ℕ) → i < length b → byte b i < 256) 
       encode-assembled c b
       (omega (arith, form-passed-blocks b passed, contents-count b))
       first-back
-      (λ j l. block-back j (omega (arith, contents-count b)))
+      (λ j l.
+      ap (λ (e : ℕ). rowsBlock e (1 + j) (offersHere offers j)) (sym (contents-edition b))
+      ∙ block-back j (omega (arith, contents-count b)))

@@ -1,6 +1,6 @@
 -- The book that says given contents passes refusals 1, 2 and 3.
 --
--- In order: a row of tests that all pass; the checks; the length; the number of offers; the layout; the form.
+-- In order: a row of tests that all pass; the checks; the length; the edition and the number of offers; the layout; the form.
 -- Assumes nothing.
 use mathlib.Core.Path.{_≡_, sym, ap, ap₂, _∙_}
 use mathlib.Core.Bool.{true}
@@ -12,7 +12,7 @@ use borrow.Author.Tests.{le-leb, eq-eqb}
 use Rattle.laws.proofs.Cases.{and-true}
 use Rattle.block.specs.Check.{checkHolds}
 use Rattle.values.specs.Refusals.{first, wrongLength, wrongCheck, wrongLayout}
-use Rattle.values.specs.Head.{offersIn}
+use Rattle.values.specs.Head.{editionIn, offersIn}
 use Rattle.values.specs.Contents.{Contents, offerAt}
 use Rattle.values.specs.declared.Verdict.{Verdict}
 use Rattle.values.specs.declared.Verdict.the-variants.{Passed}
@@ -21,13 +21,13 @@ use Rattle.values.proofs.Firsts.{unless-true, andThen-next, first-zero, first-s
 use Rattle.layout.specs.Blocks.{blockCount, blockOf}
 use Rattle.layout.specs.Section.{blocksFor, rowsHere, rowsHold, blockFault, sectionFault}
 use Rattle.layout.specs.Layout.{headHolds}
-use Rattle.layout.specs.Form.{lengthFault, checkFault, offerCount, offersSection, layoutFault, formFault}
+use Rattle.layout.specs.Form.{lengthFault, checkFault, editionOf, offerCount, offersSection, layoutFault, formFault}
 use Rattle.encoding.specs.Encode.{encode}
 use Rattle.encoding.specs.Widths.{OfferFits}
-use Rattle.encoding.specs.inner.Fits.{Fits}
+use Rattle.encoding.specs.inner.Fits.{StepFits, Fits}
 use Rattle.encoding.proofs.Sealed.{sealed-holds}
 use Rattle.encoding.proofs.Head.{length-head}
-use Rattle.encoding.proofs.HeadHolds.{read-count, head-holds}
+use Rattle.encoding.proofs.HeadHolds.{read-edition, read-count, head-holds}
 use Rattle.encoding.proofs.Rows.{check-block}
 use Rattle.encoding.proofs.RowsHold.{rows-hold}
 use Rattle.encoding.proofs.Book.{offersHere, length-offersHere, offersHere-most, offer-here}
@@ -54,12 +54,12 @@ module _ (c : Contents) where
   -- ---- the checks
 
   check-at : (k : ℕ) → k < 1 + blocksFor rows → checkHolds (blockOf b k) ≡ true
-  check-at zero l = ap checkHolds (encode-first c) ∙ sealed-holds _ (length-head (c .parameters) rows)
+  check-at zero l = ap checkHolds (encode-first c) ∙ sealed-holds _ (length-head (c .edition) (c .parameters) rows)
   check-at (suc j) l =
       let number : suc j ≡ 1 + j = omega arith in
       ap (λ (k : ℕ). checkHolds (blockOf b k)) number
       ∙ ap checkHolds (encode-block c j (omega arith))
-      ∙ check-block (1 + j) (offersHere (c .offers) j) (offersHere-most (c .offers) j)
+      ∙ check-block (c .edition) (1 + j) (offersHere (c .offers) j) (offersHere-most (c .offers) j)
 
   -- Each block's check holds.
   pub encode-checks : checkFault b ≡ Passed
@@ -78,19 +78,28 @@ module _ (c : Contents) where
         (and-true _ _ (eq-eqb (length b % 512) 0 (omega arith))
         (and-true _ _ (le-leb 512 (length b) (omega arith)) (le-leb (length b) 20992 (omega (arith, fits .few)))))
 
+    -- The edition that the book states is the one that was written.
+    pub encode-edition : editionOf b ≡ c .edition
+    encode-edition = ap editionIn (encode-first c) ∙ read-edition (c .edition) (c .parameters) rows (fits .parameters) (fits .edition)
+
     -- The number of offers that the book states is the number of those that were written.
     pub encode-count : offerCount b ≡ rows
-    encode-count = ap offersIn (encode-first c) ∙ read-count (c .parameters) rows (fits .parameters) (fits .few)
+    encode-count = ap offersIn (encode-first c) ∙ read-count (c .edition) (c .parameters) rows (fits .parameters) (fits .edition) (fits .few)
 
     -- ---- the layout
 
     head-part : headHolds (blockOf b 0) (blockCount b) ≡ true
-    head-part = rw (encode-first c, blocks) (head-holds (c .parameters) rows (fits .parameters) (fits .few))
+    head-part = rw (encode-first c, blocks) (head-holds (c .edition) (c .parameters) rows (fits .parameters) (fits .edition) (fits .few))
 
     fits-here : (j i : ℕ) → i < length (offersHere (c .offers) j) → OfferFits (offerAt (offersHere (c .offers) j) i)
     fits-here j i l =
         let here = length-offersHere (c .offers) j in
         rw (offer-here c j i (omega arith)) (fits .offers (j * 15 + i) (omega arith))
+
+    steps-here : (j i : ℕ) → i < length (offersHere (c .offers) j) → StepFits (c .edition) (offerAt (offersHere (c .offers) j) i .step)
+    steps-here j i l =
+        let here = length-offersHere (c .offers) j in
+        rw (offer-here c j i (omega arith)) (fits .steps (j * 15 + i) (omega arith))
 
     block-part : (j : ℕ) → j < blocksFor rows → blockFault b (offersSection b) j ≡ Passed
     unfolding blockFault
@@ -100,7 +109,7 @@ module _ (c : Contents) where
         ap (λ (n : ℕ). rowsHere n j) encode-count ∙ sym (length-offersHere (c .offers) j) in
         unless-true _ (wrongLayout (1 + j))
         (ap₂ (λ (s : List ℕ) (n : ℕ). rowsHold (offersSection b) s (1 + j) n) (encode-block c j l) here
-        ∙ rows-hold (1 + j) os (fits-here j) b (omega (arith, fits .few)) (offersHere-most (c .offers) j))
+        ∙ rows-hold (c .edition) (1 + j) os (fits-here j) (steps-here j) b encode-edition (omega (arith, fits .few)) (offersHere-most (c .offers) j))
 
     section-part : sectionFault b (offersSection b) ≡ Passed
     unfolding sectionFault

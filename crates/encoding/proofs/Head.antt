@@ -16,12 +16,12 @@ use Rattle.encoding.proofs.Digits.{length-zeros}
 use Rattle.encoding.proofs.Values.{written, mark, valueBytes-written, mark-most, markOf-mark}
 use Rattle.encoding.proofs.Sealed.{seal}
 
-module _ (p : Parameters) (offers : ℕ) where
+module _ (edition : ℕ) (p : Parameters) (offers : ℕ) where
   -- the block as far as its zeros, a value as its number
   abbrev pub headNumbers : List ℕ
   headNumbers =
       rpmb
-      ++ (u16Bytes 1
+      ++ (u16Bytes edition
       ++ (u16Bytes (p .year)
       ++ (u32Bytes (written (p .cost))
       ++ (u32Bytes (written (p .offset))
@@ -31,7 +31,7 @@ module _ (p : Parameters) (offers : ℕ) where
       ++ ((headMarks p ∷ 0 ∷ [])
       ++ u32Bytes (written (p .margin))))))))))
 
-  head-numbers : headBytes p offers ≡ headNumbers ++ zeros 476
+  head-numbers : headBytes edition p offers ≡ headNumbers ++ zeros 476
   unfolding headBytes u32Bytes u16Bytes
   head-numbers =
       rw (
@@ -42,22 +42,22 @@ module _ (p : Parameters) (offers : ℕ) where
         valueBytes-written (p .margin),
       )
 
-  pub length-head : length (headBytes p offers) ≡ 508
+  pub length-head : length (headBytes edition p offers) ≡ 508
   unfolding u32Bytes u16Bytes
   length-head = ap length head-numbers ∙ length-append headNumbers (zeros 476) ∙ ap (λ (n : ℕ). 32 + n) (length-zeros 476)
 
   -- the sealed block: its numbers, and behind them zeros and the sums
   abbrev pub headBlock : List ℕ
-  headBlock = sealed (headBytes p offers)
+  headBlock = sealed (headBytes edition p offers)
 
   abbrev pub headRest : List ℕ
-  headRest = zeros 476 ++ seal (headBytes p offers)
+  headRest = zeros 476 ++ seal (headBytes edition p offers)
 
   pub head-opened : headBlock ≡ headNumbers ++ headRest
   unfolding sealed
   head-opened =
-      ap (λ (s : List ℕ). s ++ seal (headBytes p offers)) head-numbers
-      ∙ append-assoc headNumbers (zeros 476) (seal (headBytes p offers))
+      ap (λ (s : List ℕ). s ++ seal (headBytes edition p offers)) head-numbers
+      ∙ append-assoc headNumbers (zeros 476) (seal (headBytes edition p offers))
 
   marks-at : byte headBlock 26
       ≡ mark (p .cost) + mark (p .offset) * 2 + mark (p .outage) * 4 + mark (p .requirement) * 8 + mark (p .margin) * 16

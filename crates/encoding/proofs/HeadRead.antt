@@ -1,4 +1,4 @@
--- A block 0 that holds is what the parameters and the number of offers that it states are written as.
+-- A block 0 that holds is what the edition, the parameters and the number of offers that it states are written as.
 --
 -- In order: a number bit by bit; what the block's test says; its marks; its parts; the block.
 -- Assumes nothing.
@@ -16,8 +16,8 @@ use Rattle.laws.proofs.Everys.{every-at}
 use Rattle.block.specs.Bytes.{byte, u16At, u32At, opensWith, blank}
 use Rattle.block.specs.Check.{checkHolds}
 use Rattle.values.specs.Values.{marked, valueOf, absentIsZero}
-use Rattle.values.specs.Head.{parametersOf, offersIn}
-use Rattle.layout.specs.Layout.{rpmb, countFits, headMarksHold, headHolds}
+use Rattle.values.specs.Head.{parametersOf, editionIn, offersIn}
+use Rattle.layout.specs.Layout.{rpmb, editionKnown, countFits, headMarksHold, headHolds}
 use Rattle.layout.proofs.Places.{blank-at}
 use Rattle.encoding.specs.Numbers.{u16Bytes, valueBytes, markOf}
 use Rattle.encoding.specs.Encode.{headMarks, headBytes, sealed}
@@ -68,7 +68,6 @@ module _ (s : List ℕ) where
   -- what the test of the block says
   record HeadRead : Type 0 where
     letters : opensWith s rpmb ≡ true
-    edition : u16At s 4 ≡ 1
     marks : MarksRead
     at-27 : byte s 27 ≡ 0
     rest : blank s 32 476 ≡ true
@@ -77,12 +76,11 @@ module _ (s : List ℕ) where
   unfolding headHolds
   head-read blocks e =
       let from-edition = and-right (opensWith s rpmb) _ e in
-      let from-count = and-right (eqb (u16At s 4) 1) _ from-edition in
+      let from-count = and-right (editionKnown (editionIn s)) _ from-edition in
       let from-marks = and-right (countFits s blocks) _ from-count in
       let from-blank = and-right (headMarksHold s) _ from-marks in
       record {
         letters = and-left _ _ e;
-        edition = eqb-true (u16At s 4) 1 (and-left _ _ from-edition);
         marks = marks-read (and-left _ _ from-marks);
         at-27 = blank-at s 27 1 0 (and-left _ _ from-blank) (omega arith);
         rest = and-right (blank s 27 1) _ from-blank;
@@ -109,12 +107,12 @@ module _ (s : List ℕ) where
     value-part bit at h e = valueBytes-read (byte s 26) bit (u32At s at) e ∙ u32Bytes-at s bytes at (omega arith)
 
     -- the block as far as its sums
-    head-part : headBytes (parametersOf s) (offersIn s) ≡ part s 0 508
-    unfolding headBytes parametersOf offersIn
+    head-part : headBytes (editionIn s) (parametersOf s) (offersIn s) ≡ part s 0 508
+    unfolding headBytes parametersOf editionIn offersIn
     head-part =
         let marks = read .marks in
         part-onto s 0 4 504 (letters-part s 82 80 77 66 (omega arith) (read .letters))
-        (part-onto s 4 2 502 (ap u16Bytes (sym (read .edition)) ∙ u16Bytes-at s bytes 4 (omega arith))
+        (part-onto s 4 2 502 (u16Bytes-at s bytes 4 (omega arith))
         (part-onto s 6 2 500 (u16Bytes-at s bytes 6 (omega arith))
         (part-onto s 8 4 496 (value-part 0 8 (omega arith) (marks .cost))
         (part-onto s 12 4 492 (value-part 1 12 (omega arith) (marks .offset))
@@ -126,5 +124,5 @@ module _ (s : List ℕ) where
         (zeros-part s 32 476 (omega arith) (read .rest)))))))))))
 
     -- What was read from a block 0 that holds is written as that block.
-    pub head-back : checkHolds s ≡ true → sealed (headBytes (parametersOf s) (offersIn s)) ≡ s
+    pub head-back : checkHolds s ≡ true → sealed (headBytes (editionIn s) (parametersOf s) (offersIn s)) ≡ s
     head-back e = ap sealed head-part ∙ sealed-part s whole bytes e

@@ -23,32 +23,32 @@ use Rattle.encoding.proofs.Place.{length-place}
 
 -- ---- places, one after another
 
-pub length-places : (os : List Offer) → length (placesBytes os) ≡ length os * 32
+pub length-places : (edition : ℕ) (os : List Offer) → length (placesBytes edition os) ≡ length os * 32
 unfolding placesBytes
-length-places [] = refl
-length-places (o ∷ os) =
-    length-append (placeBytes o) (placesBytes os)
-    ∙ ap₂ _+_ (length-place o) (length-places os)
+length-places edition [] = refl
+length-places edition (o ∷ os) =
+    length-append (placeBytes edition o) (placesBytes edition os)
+    ∙ ap₂ _+_ (length-place edition o) (length-places edition os)
     ∙ add-comm 32 (length os * 32)
     ∙ sym (suc-mul (length os) 32)
 
 -- the place of a row, whatever stands behind the places
-pub place-of-row : (os : List Offer) (q : List ℕ) (i : ℕ) → i < length os
-    → part (placesBytes os ++ q) (i * 32) 32 ≡ placeBytes (offerAt os i)
+pub place-of-row : (edition : ℕ) (os : List Offer) (q : List ℕ) (i : ℕ) → i < length os
+    → part (placesBytes edition os ++ q) (i * 32) 32 ≡ placeBytes edition (offerAt os i)
 unfolding placesBytes
-place-of-row [] q i l = absurd (omega arith)
-place-of-row (o ∷ os) q zero l =
-    ap (λ (t : List ℕ). part t 0 32) (append-assoc (placeBytes o) (placesBytes os) q)
-    ∙ part-here (placeBytes o) (placesBytes os ++ q) 32 (length-place o)
-place-of-row (o ∷ os) q (suc i) l =
+place-of-row edition [] q i l = absurd (omega arith)
+place-of-row edition (o ∷ os) q zero l =
+    ap (λ (t : List ℕ). part t 0 32) (append-assoc (placeBytes edition o) (placesBytes edition os) q)
+    ∙ part-here (placeBytes edition o) (placesBytes edition os ++ q) 32 (length-place edition o)
+place-of-row edition (o ∷ os) q (suc i) l =
     let further : suc i * 32 ≡ 32 + i * 32 = omega arith in
-    ap₂ (λ (t : List ℕ) (at : ℕ). part t at 32) (append-assoc (placeBytes o) (placesBytes os) q) further
-    ∙ part-past (placeBytes o) (placesBytes os ++ q) 32 (i * 32) 32 (length-place o)
-    ∙ place-of-row os q i (omega arith)
+    ap₂ (λ (t : List ℕ) (at : ℕ). part t at 32) (append-assoc (placeBytes edition o) (placesBytes edition os) q) further
+    ∙ part-past (placeBytes edition o) (placesBytes edition os ++ q) 32 (i * 32) 32 (length-place edition o)
+    ∙ place-of-row edition os q i (omega arith)
 
 -- ---- a block
 
-module _ (k : ℕ) (os : List Offer) where
+module _ (edition k : ℕ) (os : List Offer) where
   -- the block as far as its places
   abbrev pub rowsOpening : List ℕ
   rowsOpening = ofrs ++ (u16Bytes k ++ (u16Bytes (length os) ++ zeros 20))
@@ -57,42 +57,42 @@ module _ (k : ℕ) (os : List Offer) where
   unused = zeros (480 - length os * 32)
 
   abbrev pub rowsBlock : List ℕ
-  rowsBlock = sealed (rowsBytes k os)
+  rowsBlock = sealed (rowsBytes edition k os)
 
   pub length-opening : length rowsOpening ≡ 28
   unfolding u16Bytes zeros
   length-opening = refl
 
-  pub rows-parts : rowsBytes k os ≡ rowsOpening ++ (placesBytes os ++ unused)
+  pub rows-parts : rowsBytes edition k os ≡ rowsOpening ++ (placesBytes edition os ++ unused)
   unfolding rowsBytes
   rows-parts = simp append-assoc
 
-  pub rows-opened : rowsBlock ≡ rowsOpening ++ (placesBytes os ++ (unused ++ seal (rowsBytes k os)))
+  pub rows-opened : rowsBlock ≡ rowsOpening ++ (placesBytes edition os ++ (unused ++ seal (rowsBytes edition k os)))
   unfolding sealed
   rows-opened =
-      ap (λ (s : List ℕ). s ++ seal (rowsBytes k os)) rows-parts
-      ∙ append-assoc rowsOpening (placesBytes os ++ unused) (seal (rowsBytes k os))
-      ∙ ap (λ (s : List ℕ). rowsOpening ++ s) (append-assoc (placesBytes os) unused (seal (rowsBytes k os)))
+      ap (λ (s : List ℕ). s ++ seal (rowsBytes edition k os)) rows-parts
+      ∙ append-assoc rowsOpening (placesBytes edition os ++ unused) (seal (rowsBytes edition k os))
+      ∙ ap (λ (s : List ℕ). rowsOpening ++ s) (append-assoc (placesBytes edition os) unused (seal (rowsBytes edition k os)))
 
   -- the place of a row of the block
-  pub place-written : (i : ℕ) → i < length os → placeOf rowsBlock i ≡ placeBytes (offerAt os i)
+  pub place-written : (i : ℕ) → i < length os → placeOf rowsBlock i ≡ placeBytes edition (offerAt os i)
   unfolding placeOf
   place-written i l =
       ap (λ (s : List ℕ). part s (28 + i * 32) 32) rows-opened
       ∙ part-past rowsOpening _ 28 (i * 32) 32 length-opening
-      ∙ place-of-row os (unused ++ seal (rowsBytes k os)) i l
+      ∙ place-of-row edition os (unused ++ seal (rowsBytes edition k os)) i l
 
   module _ (here : length os ≤ 15) where
-    pub length-rows : length (rowsBytes k os) ≡ 508
+    pub length-rows : length (rowsBytes edition k os) ≡ 508
     length-rows =
         ap length rows-parts
-        ∙ length-append rowsOpening (placesBytes os ++ unused)
-        ∙ ap₂ _+_ length-opening (length-append (placesBytes os) unused)
-        ∙ omega (arith, length-places os, length-zeros (480 - length os * 32))
+        ∙ length-append rowsOpening (placesBytes edition os ++ unused)
+        ∙ ap₂ _+_ length-opening (length-append (placesBytes edition os) unused)
+        ∙ omega (arith, length-places edition os, length-zeros (480 - length os * 32))
 
     pub length-block : length rowsBlock ≡ 512
-    length-block = length-sealed (rowsBytes k os) length-rows
+    length-block = length-sealed (rowsBytes edition k os) length-rows
 
     -- its check holds
     pub check-block : checkHolds rowsBlock ≡ true
-    check-block = sealed-holds (rowsBytes k os) length-rows
+    check-block = sealed-holds (rowsBytes edition k os) length-rows

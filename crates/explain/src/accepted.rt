@@ -1,5 +1,6 @@
 // An accepted book: what the curve buys, and its rows. Each function answers whether its lines were taken, and says no more
 // once one was not.
+use crate::stepped::explain_together;
 use market::price::ClearingPrice;
 use page::bought::say_curve;
 use page::bought::say_last_point;
@@ -60,6 +61,7 @@ pub fn explain_market(book: &[u8], price: ClearingPrice) -> bool {
 
 // A row with its offer and its share.
 fn explain_share(
+    edition: u32,
     row: usize,
     o: Offer,
     s: Share,
@@ -67,7 +69,7 @@ fn explain_share(
     cleared: u32,
     committed: u32,
 ) -> bool {
-    say_offer(row, o)
+    say_offer(edition, row, o)
         && say_share(o.quantity, s.amount, s.sum, s.down, s.remainder, cleared)
         && say_settled(cleared, committed, make_whole(price, cleared, committed))
 }
@@ -75,6 +77,7 @@ fn explain_share(
 // A row of a book.
 fn explain_row(
     book: &[u8],
+    edition: u32,
     row: usize,
     price: ClearingPrice,
     cleared: u32,
@@ -86,7 +89,7 @@ fn explain_row(
     if let WorksAnswer::Worked(w) = workings(book, row) {
         let share = w.share;
         if let RowShare::Shares(s) = share {
-            return explain_share(row, o, s, price, cleared, committed);
+            return explain_share(edition, row, o, s, price, cleared, committed);
         }
     }
     true
@@ -95,13 +98,16 @@ fn explain_row(
 // The rows of a book.
 pub fn explain_rows(
     book: &[u8],
+    edition: u32,
     price: ClearingPrice,
     cleared: &[u32; 600],
     committed: &[u32; 600],
 ) -> bool {
     let n = rows_of(book);
     for row in 0..n {
-        if !explain_row(book, row, price, cleared[row], committed[row]) {
+        if !explain_row(book, edition, row, price, cleared[row], committed[row])
+            || !explain_together(book, row, cleared)
+        {
             return false;
         }
     }

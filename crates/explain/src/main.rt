@@ -3,6 +3,7 @@
 // no book to explain: that, and a page that is not all taken, is one line on standard error.
 mod accepted;
 mod refused;
+mod stepped;
 
 use accepted::explain_market;
 use accepted::explain_rows;
@@ -19,12 +20,13 @@ use page::totals::say_year;
 use refused::explain_refusal;
 use sale::Clearing;
 use workings::read::Head;
+use workings::read::edition_of;
 use workings::read::head_of;
 
 // What block 0 states, where the form of the book lets it be read.
-fn explain_head(book: &[u8]) -> bool {
+fn explain_head(book: &[u8], edition: u32) -> bool {
     if let Head::Stated(p, offers) = head_of(book) {
-        return say_stated(p, offers);
+        return say_stated(edition, p, offers);
     }
     true
 }
@@ -50,16 +52,17 @@ fn explain_totals(book: &[u8], c: Clearing) -> bool {
 fn explain(book: &[u8]) -> bool {
     let mut cleared = [0u32; 600];
     let mut committed = [0u32; 600];
-    if !explain_head(book) {
+    let edition = edition_of(book);
+    if !explain_head(book, edition) {
         return false;
     }
     match clear(book, &mut cleared, &mut committed) {
-        Answer::Refused(number, place) => explain_refusal(book, number, place),
+        Answer::Refused(number, place) => explain_refusal(book, edition, number, place),
         Answer::Cleared(c) => {
             let price = c.price;
             explain_edition(book)
                 && explain_market(book, price)
-                && explain_rows(book, price, &cleared, &committed)
+                && explain_rows(book, edition, price, &cleared, &committed)
                 && explain_totals(book, c)
         }
     }

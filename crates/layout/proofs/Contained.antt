@@ -1,6 +1,6 @@
 -- What the decoder makes of a book.
 --
--- In order: how many offers are made of rows, and which stands at a row; the parameters of a book, how many offers it has, and
+-- In order: how many offers are made of rows, and which stands at a row; the edition and the parameters of a book, how many offers it has, and
 -- that they are those of its rows.
 -- Assumes nothing.
 use mathlib.Core.Path.{_≡_, refl, sym, _∙_}
@@ -13,22 +13,22 @@ use Rattle.values.specs.Place.{offerOf}
 use Rattle.values.specs.Contents.{noOffer, offerAt}
 use Rattle.values.specs.declared.place.Offer.{Offer}
 use Rattle.layout.specs.Blocks.{blockOf, rowBytes}
-use Rattle.layout.specs.Form.{offerCount}
+use Rattle.layout.specs.Form.{editionOf, offerCount}
 use Rattle.layout.specs.Read.{rowOffer, rowOffers, contentsOf}
 
-module _ (b : List ℕ) (first n : ℕ) where
-  pub length-rowOffers : length (rowOffers b first n) ≡ n
+module _ (b : List ℕ) (edition first n : ℕ) where
+  pub length-rowOffers : length (rowOffers b edition first n) ≡ n
   unfolding rowOffers
-  length-rowOffers = length-listOf (rowOffer b first) n
+  length-rowOffers = length-listOf (rowOffer b edition first) n
 
   -- the offer at a row is the row's own
-  pub offerAt-rowOffers : (row : ℕ) → row < n → offerAt (rowOffers b first n) row ≡ rowOffer b first row
+  pub offerAt-rowOffers : (row : ℕ) → row < n → offerAt (rowOffers b edition first n) row ≡ rowOffer b edition first row
   unfolding rowOffers
-  offerAt-rowOffers row l = getD-listOf (rowOffer b first) n row noOffer l
+  offerAt-rowOffers row l = getD-listOf (rowOffer b edition first) n row noOffer l
 
   -- what a row's own bytes hold is the row's offer
-  pub offer-of-row : (row : ℕ) {part : List ℕ} {o : Offer} → row < n → part ≡ rowBytes b first row → o ≡ offerOf part
-      → o ≡ offerAt (rowOffers b first n) row
+  pub offer-of-row : (row : ℕ) {part : List ℕ} {o : Offer} → row < n → part ≡ rowBytes b first row
+      → o ≡ offerOf edition part → o ≡ offerAt (rowOffers b edition first n) row
   unfolding rowOffer
   offer-of-row row l p e = rw (e, p) (sym (offerAt-rowOffers row l))
 
@@ -37,15 +37,19 @@ module _ (b : List ℕ) where
   unfolding contentsOf
   contents-parameters = refl
 
-  pub contents-offers : rowOffers b 1 (offerCount b) ≡ contentsOf b .offers
+  pub contents-edition : editionOf b ≡ contentsOf b .edition
+  unfolding contentsOf
+  contents-edition = refl
+
+  pub contents-offers : rowOffers b (editionOf b) 1 (offerCount b) ≡ contentsOf b .offers
   unfolding contentsOf
   contents-offers = refl
 
   pub contents-count : offerCount b ≡ length (contentsOf b .offers)
   unfolding contentsOf
-  contents-count = sym (length-rowOffers b 1 (offerCount b))
+  contents-count = sym (length-rowOffers b (editionOf b) 1 (offerCount b))
 
   -- the offer of a row that is there
-  pub contents-offer : (row : ℕ) → row < offerCount b → offerAt (contentsOf b .offers) row ≡ rowOffer b 1 row
+  pub contents-offer : (row : ℕ) → row < offerCount b → offerAt (contentsOf b .offers) row ≡ rowOffer b (editionOf b) 1 row
   unfolding contentsOf
-  contents-offer row l = offerAt-rowOffers b 1 (offerCount b) row l
+  contents-offer row l = offerAt-rowOffers b (editionOf b) 1 (offerCount b) row l

@@ -1,9 +1,10 @@
 -- The contract of each public function of this crate leaves one answer: any two that it allows for the same bytes coincide,
 -- wherever the books lie.
 --
--- In order: the first faults; the reader of rows; sections.
+-- In order: the first faults; the reader of rows; sections; editions.
 -- Assumes nothing.
 use mathlib.Core.Path.{_≡_, sym, _∙_}
+use mathlib.Core.Bool.{Bool}
 use mathlib.Core.List.{List}
 use Prim.Native.Nat.{ℕ}
 use contract.Lifetimes.{Lfts}
@@ -13,11 +14,13 @@ use Rattle.values.specs.Refusals.{andThen}
 use Rattle.values.specs.declared.Verdict.{Verdict}
 use Rattle.layout.specs.Blocks.{rowBytes}
 use Rattle.layout.specs.Section.{sectionFault}
-use Rattle.layout.specs.Form.{lengthFault, checkFault, layoutFault, formFault, offerCount, offersSection, ownBytes}
+use Rattle.layout.specs.Form.{lengthFault, checkFault, layoutFault, formFault, editionOf, offerCount, offersSection, ownBytes}
 use Rattle.layout.specs.declared.section.Section.{Section}
 use Rattle.layout.proofs.form.lengths.Reads as lengths
 use Rattle.layout.proofs.form.blocks_fault.Reads as blocks-fault
 use Rattle.layout.proofs.form.form.Reads as form
+use Rattle.layout.proofs.head.edition_known.Reads as edition-known
+use Rattle.layout.proofs.reader.edition.Reads as edition
 use Rattle.layout.proofs.reader.offer_count.Reads as offer-count
 use Rattle.layout.proofs.reader.row_bytes.Reads as row-bytes
 use Rattle.layout.proofs.reader.own_bytes.Reads as own-bytes
@@ -41,6 +44,11 @@ module _ (κs : Lfts 1) (book other : RefT (List ℕ)) (same : now book ≡ now 
   pub form-decided : (r s : Verdict)
       → form.Post κs (book, tt) r (book, tt) → form.Post κs (other, tt) s (other, tt) → r ≡ s
   form-decided r s = same-answer formFault same
+
+  -- the edition, by the contract of `edition`
+  pub edition-decided : (r s : ℕ)
+      → edition.Post κs (book, tt) r (book, tt) → edition.Post κs (other, tt) s (other, tt) → r ≡ s
+  edition-decided r s e f = same-answer editionOf same (e .0) (f .0)
 
   -- the number of offers, by the contract of `offer_count`
   pub offer-count-decided : (r s : ℕ)
@@ -82,3 +90,8 @@ blocks-for-decided rows r s e f = e ∙ sym f
 pub rows-here-decided : (rows j r s : ℕ)
     → rows-here.Post tt (rows, (j, tt)) r (rows, (j, tt)) → rows-here.Post tt (rows, (j, tt)) s (rows, (j, tt)) → r ≡ s
 rows-here-decided rows j r s e f = e ∙ sym f
+
+-- whether a book can have an edition, by the contract of `edition_known`
+pub edition-known-decided : (edition : ℕ) (r s : Bool)
+    → edition-known.Post tt (edition, tt) r (edition, tt) → edition-known.Post tt (edition, tt) s (edition, tt) → r ≡ s
+edition-known-decided edition r s e f = e ∙ sym f

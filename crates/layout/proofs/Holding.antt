@@ -12,12 +12,12 @@ use borrow.Author.Tests.{eqb-true, leb-true, lt-ltb}
 use Rattle.laws.proofs.Cases.{and-left, and-right}
 use Rattle.laws.proofs.Everys.{every-at}
 use Rattle.block.specs.Bytes.{u16At, opensWith, blank}
-use Rattle.values.specs.Head.{offersIn}
+use Rattle.values.specs.Head.{editionIn, offersIn}
 use Rattle.values.specs.declared.Verdict.the-variants.{Passed}
 use Rattle.values.proofs.Firsts.{unless-passed}
 use Rattle.layout.specs.Blocks.{placeOf}
 use Rattle.layout.specs.Section.{blocksFor, usedHolds, placeHolds, placesHold, rowsHold}
-use Rattle.layout.specs.Layout.{rpmb, countFits, headMarksHold, headHolds}
+use Rattle.layout.specs.Layout.{rpmb, editionKnown, countFits, headMarksHold, headHolds}
 use Rattle.layout.specs.declared.section.Section.{Section}
 use Rattle.layout.specs.Form.{lengthFault}
 
@@ -58,16 +58,19 @@ count-holds s blocks e =
       fits = eqb-true blocks (1 + blocksFor (offersIn s)) (and-right most fits e);
     }
 
-pub head-holds : (s : List ℕ) (blocks : ℕ) → headHolds s blocks ≡ true → CountHolds blocks (offersIn s)
-unfolding headHolds
-head-holds s blocks e =
-    let rest : Bool = headMarksHold s && (blank s 27 1 && blank s 32 476) in
-    let from-count : Bool = countFits s blocks && rest in
-    let from-edition : Bool = eqb (u16At s 4) 1 && from-count in
-    count-holds s blocks
-    (and-left (countFits s blocks) rest
-    (and-right (eqb (u16At s 4) 1) from-count
-    (and-right (opensWith s rpmb) from-edition e)))
+module _ (s : List ℕ) (blocks : ℕ) (e : headHolds s blocks ≡ true) where
+  abbrev rest : Bool
+  rest = countFits s blocks && (headMarksHold s && (blank s 27 1 && blank s 32 476))
+
+  from-edition : editionKnown (editionIn s) && rest ≡ true
+  unfolding headHolds
+  from-edition = and-right (opensWith s rpmb) _ e
+
+  pub head-edition : editionKnown (editionIn s) ≡ true
+  head-edition = and-left _ rest from-edition
+
+  pub head-holds : CountHolds blocks (offersIn s)
+  head-holds = count-holds s blocks (and-left (countFits s blocks) _ (and-right (editionKnown (editionIn s)) rest from-edition))
 
 -- a block of rows that holds has places that hold
 places-hold : (t : Section) (s : List ℕ) (k here : ℕ) → rowsHold t s k here ≡ true → placesHold (t .last) s here ≡ true

@@ -1,7 +1,7 @@
 -- What it means for later code that a book passed refusals 1, 2 and 3.
 --
--- In order: a section whose blocks passed; each of the three passed; each block's check and layout; the book's length, the
--- number of its offers, and how they fit; where a row's block stands; that the row's own bytes are laid out as a used place.
+-- In order: a section whose blocks passed; each of the three passed; each block's check and layout; the book's length,
+-- its edition, the number of its offers, and how they fit; where a row's block stands; that the row's own bytes are laid out as a used place.
 -- Assumes nothing.
 use mathlib.Core.Path.{_≡_}
 use mathlib.Core.Bool.{true}
@@ -15,10 +15,10 @@ use Rattle.values.specs.declared.Verdict.the-variants.{Passed}
 use Rattle.values.proofs.Firsts.{unless-passed, andThen-left, andThen-right, first-at}
 use Rattle.layout.specs.Blocks.{blockCount, blockOf, rowBytes}
 use Rattle.layout.specs.Section.{blocksFor, rowsHere, usedHolds, rowsHold, blockFault, sectionFault}
-use Rattle.layout.specs.Layout.{headHolds}
-use Rattle.layout.specs.Form.{lengthFault, checkFault, offerCount, offersLast, offersSection, layoutFault, formFault}
+use Rattle.layout.specs.Layout.{editionKnown, headHolds}
+use Rattle.layout.specs.Form.{lengthFault, checkFault, editionOf, offerCount, offersLast, offersSection, layoutFault, formFault}
 use Rattle.layout.specs.declared.section.Section.{Section}
-use Rattle.layout.proofs.Holding.{LengthHolds, length-holds, CountHolds, head-holds, rows-hold-used}
+use Rattle.layout.proofs.Holding.{LengthHolds, length-holds, CountHolds, head-edition, head-holds, rows-hold-used}
 
 -- a section that passed: each of its blocks holds
 section-passed-block : (b : List ℕ) (t : Section) → sectionFault b t ≡ Passed → (j : ℕ) → j < blocksFor (t .rows)
@@ -80,6 +80,10 @@ module _ (b : List ℕ) (passed : formFault b ≡ Passed) where
   pub form-passed-length : 512 ≤ length b
   form-passed-length = length-part .least
 
+  -- it states an edition that books have
+  pub form-passed-edition : editionKnown (editionOf b) ≡ true
+  form-passed-edition = head-edition (blockOf b 0) (blockCount b) form-passed-head
+
   -- it states at most 600 offers
   pub form-passed-count : offerCount b ≤ 600
   form-passed-count = count-part .most
@@ -93,5 +97,5 @@ module _ (b : List ℕ) (passed : formFault b ≡ Passed) where
   form-passed-row row l = omega (arith, form-passed-blocks)
 
   -- each row's own bytes are laid out as a used place
-  pub form-passed-used : (row : ℕ) → row < offerCount b → usedHolds offersLast (rowBytes b 1 row) ≡ true
+  pub form-passed-used : (row : ℕ) → row < offerCount b → usedHolds (offersLast (editionOf b)) (rowBytes b 1 row) ≡ true
   form-passed-used = section-passed-used b (offersSection b) section-part

@@ -6,7 +6,7 @@ use mathlib.Core.List.{List, [], _∷_}
 use lib.ListN.{length}
 use lib.Dec.{eqb, leb, ltb}
 use Rattle.block.specs.Check.{checkHolds}
-use Rattle.values.specs.Head.{offersIn}
+use Rattle.values.specs.Head.{editionIn, offersIn}
 use Rattle.values.specs.Refusals.{wrongLength, wrongCheck, wrongLayout, unless, andThen, first}
 use Rattle.values.specs.declared.Verdict.{Verdict}
 use Rattle.values.specs.declared.Verdict.the-variants.{Passed, Refused}
@@ -24,6 +24,10 @@ lengthFault b = unless (eqb (length b % 512) 0 && (leb 512 (length b) && leb (le
 unfoldable pub checkFault : List ℕ → Verdict
 checkFault b = first (λ k. unless (checkHolds (blockOf b k)) (wrongCheck k)) (blockCount b)
 
+-- the edition that a book states
+abbrev pub editionOf : List ℕ → ℕ
+editionOf b = editionIn (blockOf b 0)
+
 -- the number of offers that a book states
 abbrev pub offerCount : List ℕ → ℕ
 offerCount b = offersIn (blockOf b 0)
@@ -32,13 +36,15 @@ offerCount b = offersIn (blockOf b 0)
 abbrev pub ofrs : List ℕ
 ofrs = 79 ∷ 70 ∷ 82 ∷ 83 ∷ []
 
--- the last bytes of an offer in edition 1: bits 0 and 1 of the marks may be set, the other bits and bytes 29-31 are zero
-abbrev pub offersLast : LastBytes
-offersLast = record { marks = 3; step = 0; lowest = 0; highest = 0 }
+-- the last bytes of an offer: bits 0 and 1 of the marks may be set, byte 29 is zero in edition 1 and any step in edition 2,
+-- and the other bits and bytes are zero
+abbrev pub offersLast : ℕ → LastBytes
+offersLast edition = record { marks = 3; step = cond (eqb edition 1) 0 255; lowest = 0; highest = 0 }
 
--- the offers of a book: the letters, from block 1 on, as many as block 0 states, by the rule of edition 1
+-- the offers of a book: the letters, from block 1 on, as many as block 0 states, by the rule of its edition
 abbrev pub offersSection : List ℕ → Section
-offersSection b = record { letters = ofrs; first = 1; number = 1; rows = offerCount b; last = offersLast }
+offersSection b =
+    record { letters = ofrs; first = 1; number = 1; rows = offerCount b; last = offersLast (editionOf b) }
 
 -- 3: the layout, block 0 first, then the offer blocks, lowest first
 unfoldable pub layoutFault : List ℕ → Verdict

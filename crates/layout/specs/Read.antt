@@ -10,17 +10,21 @@ use Rattle.values.specs.Place.{offerOf}
 use Rattle.values.specs.Contents.{Contents}
 use Rattle.values.specs.declared.place.Offer.{Offer}
 use Rattle.layout.specs.Blocks.{blockOf, rowBytes}
-use Rattle.layout.specs.Form.{offersSection}
+use Rattle.layout.specs.Form.{editionOf, offersSection}
 
--- the offer of a row, where the first row stands in the block `first`, and the offers of n rows
-unfoldable pub rowOffer : List ℕ → ℕ → ℕ → Offer
-rowOffer b first row = offerOf (rowBytes b first row)
+-- the offer of a row by the rule of an edition, where the first row stands in the block `first`, and the offers of n rows
+unfoldable pub rowOffer : List ℕ → ℕ → ℕ → ℕ → Offer
+rowOffer b edition first row = offerOf edition (rowBytes b first row)
 
-unfoldable pub rowOffers : List ℕ → ℕ → ℕ → List Offer
-rowOffers b first n = listOf (rowOffer b first) n
+unfoldable pub rowOffers : List ℕ → ℕ → ℕ → ℕ → List Offer
+rowOffers b edition first n = listOf (rowOffer b edition first) n
 
--- what a book says: the parameters of block 0, and the offers of their section, row by row
+-- what a book says: the edition and the parameters of block 0, and the offers of their section, row by row
 unfoldable pub contentsOf : List ℕ → Contents
 contentsOf b =
     let section = offersSection b in
-    record { parameters = parametersOf (blockOf b 0); offers = rowOffers b (section .first) (section .rows) }
+    record {
+      edition = editionOf b;
+      parameters = parametersOf (blockOf b 0);
+      offers = rowOffers b (editionOf b) (section .first) (section .rows);
+    }

@@ -5,12 +5,31 @@ use crate::marks::absent_holds;
 use crate::section::blocks_for;
 use block::bytes::is_blank;
 use block::bytes::opens_with;
-use block::bytes::u16_at;
+use values::head::edition_in;
 use values::head::offers_in;
 ghost use mathlib.Core.Path.{_≡_};
 ghost use Prim.Native.Nat.{_≤_};
 ghost use lib.ListN.{length};
-ghost use Rattle.layout.specs.Layout.{countFits, headMarksHold, headHolds};
+ghost use Rattle.values.specs.Head.{editionIn};
+ghost use Rattle.layout.specs.Layout.{editionKnown, countFits, headMarksHold, headHolds};
+
+// Whether a book can have this edition.
+pub fn edition_known(edition: u32) -> bool
+    ensures { λ r. ⌜ r ≡ editionKnown edition ⌝ }
+{
+    if edition < 1 {
+        return false;
+    }
+    edition <= 2
+}
+
+// Whether a block 0 states such an edition.
+fn edition_holds(s: &[u8]) -> bool
+    requires { ⌜ 512 ≤ length (now s) ⌝ }
+    ensures { λ r. ⌜ r ≡ editionKnown (editionIn (now (s .entry))) ⌝ }
+{
+    edition_known(edition_in(s))
+}
 
 // Whether the number of offers is at most 600 and fits the number of blocks.
 fn count_fits(s: &[u8], blocks: usize) -> bool
@@ -56,7 +75,7 @@ pub(crate) fn head_holds(s: &[u8], blocks: usize) -> bool
     if !opens_with(s, &RPMB) {
         return false;
     }
-    if u16_at(s, 4) != 1 {
+    if !edition_holds(s) {
         return false;
     }
     if !count_fits(s, blocks) {

@@ -5,12 +5,21 @@ use crate::PLACES_FROM;
 use crate::form::form;
 use block::SIZE;
 use values::Verdict;
+use values::head::edition_in;
 use values::head::offers_in;
 ghost use mathlib.Core.Path.{_≡_};
 ghost use Prim.Native.Nat.{_+_, _*_, _/_, _≤_, _<_};
 ghost use lib.ListN.{length};
 ghost use Rattle.layout.specs.Blocks.{rowBytes};
-ghost use Rattle.layout.specs.Form.{offerCount, ownBytes};
+ghost use Rattle.layout.specs.Form.{editionOf, offerCount, ownBytes};
+
+// The edition that a book states.
+pub fn edition(book: &[u8]) -> u32
+    requires { ⌜ 512 ≤ length (now book) ⌝ }
+    ensures { λ r. ⌜ (r ≡ editionOf (now (book .entry))) × (r < 65536) ⌝ }
+{
+    edition_in(&book[0..SIZE])
+}
 
 // The number of offers that a book states.
 pub fn offer_count(book: &[u8]) -> u32

@@ -42,6 +42,19 @@ fn bytes_hold(p: &[u8], last: LastBytes) -> bool
     p[31] == 0
 }
 
+// Whether the last four bytes of a used place follow the rule, one that admits a step. Where it admits marks and any step
+// alone, the other three as one number are at most the highest marks, which is one test.
+fn stepped_holds(p: &[u8], last: LastBytes) -> bool
+    requires { ⌜ 32 ≤ length (now p) ⌝ }
+    ensures { λ r. ⌜ r ≡ lastHolds last (now (p .entry)) ⌝ }
+{
+    if last.step as u32 != 255 + last.lowest as u32 + last.highest as u32 {
+        return bytes_hold(p, last);
+    }
+    let number = u32_at(p, 28);
+    number % 256 + number / 65536 * 65536 <= last.marks as u32
+}
+
 // Whether the last four bytes of a used place follow the rule. Where it admits marks alone, the four as one number are at most
 // the highest marks, which is one test.
 fn last_holds(p: &[u8], last: LastBytes) -> bool
@@ -49,7 +62,7 @@ fn last_holds(p: &[u8], last: LastBytes) -> bool
     ensures { λ r. ⌜ r ≡ lastHolds last (now (p .entry)) ⌝ }
 {
     if last.step as u32 + last.lowest as u32 + last.highest as u32 != 0 {
-        return bytes_hold(p, last);
+        return stepped_holds(p, last);
     }
     u32_at(p, 28) <= last.marks as u32
 }

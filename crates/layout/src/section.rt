@@ -2,12 +2,13 @@
 use crate::OFRS;
 use crate::PLACES;
 use block::SIZE;
+use values::head::edition_in;
 use values::head::offers_in;
 ghost use mathlib.Core.Path.{_≡_};
 ghost use Prim.Native.Nat.{_*_, _≤_};
 ghost use lib.ListN.{length};
 ghost use Rattle.layout.specs.Section.{blocksFor, rowsHere};
-ghost use Rattle.layout.specs.Form.{offersSection};
+ghost use Rattle.layout.specs.Form.{offersLast, offersSection};
 
 // The rule of a used place's last four bytes, of which the last is zero in every kind of row.
 pub struct LastBytes {
@@ -28,6 +29,25 @@ impl LastBytes {
         lowest: 0,
         highest: 0,
     };
+
+    // An offer of edition 2: its step stands in byte 29.
+    pub const STEPS: LastBytes = LastBytes {
+        marks: 3,
+        step: 255,
+        lowest: 0,
+        highest: 0,
+    };
+}
+
+// The rule of an offer's last four bytes in an edition.
+fn offers_last(edition: u32) -> LastBytes
+    ensures { λ r. ⌜ r ≡ offersLast edition ⌝ }
+{
+    if edition == 1 {
+        LastBytes::OFFERS
+    } else {
+        LastBytes::STEPS
+    }
 }
 
 // Rows of one kind: where they stand, how many there are, and what their blocks and places look like.
@@ -60,16 +80,17 @@ pub fn rows_here(rows: usize, j: usize) -> usize
     if left < PLACES { left } else { PLACES }
 }
 
-// The section of a book's offers: from block 1 on, as many as the book states, by the rule of edition 1.
+// The section of a book's offers: from block 1 on, as many as the book states, by the rule of its edition.
 pub fn offers_section(book: &[u8]) -> Section
     requires { ⌜ 512 ≤ length (now book) ⌝ }
     ensures { λ r. ⌜ r ≡ offersSection (now (book .entry)) ⌝ }
 {
+    let head = &book[0..SIZE];
     Section {
         letters: OFRS,
         first: 1,
         number: 1,
-        rows: offers_in(&book[0..SIZE]) as usize,
-        last: LastBytes::OFFERS,
+        rows: offers_in(head) as usize,
+        last: offers_last(edition_in(head)),
     }
 }

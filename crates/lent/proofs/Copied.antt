@@ -59,28 +59,29 @@ module _ (b : List ℕ) (rows : List OzpRow) where
     unfolding exportedContents
     passed = passed-by (readFault b (length rows)) _ (sym (ap (λ (c : OzpContents). c .kind) (read .contents)) ∙ given)
 
-    answer : r ≡ contentsOut (contentsOf b .parameters) n
+    answer : r ≡ contentsOut (contentsOf b .edition) (contentsOf b .parameters) n
     unfolding exportedContents
-    answer = read .contents ∙ ap (λ (v : Verdict). contentsBy v (contentsOut (contentsOf b .parameters) n)) passed
+    answer = read .contents ∙ ap (λ (v : Verdict). contentsBy v (contentsOut (contentsOf b .edition) (contentsOf b .parameters) n)) passed
 
     array : rows′ ≡ filledRows (rowOut b) n rows
     array =
         read .filled
         ∙ ap (λ (k : ℕ). filledRows (rowOut b) k rows)
-        (ap rowsFilled (sym (read .contents) ∙ answer) ∙ sym (filled-given (contentsOut (contentsOf b .parameters) n) refl))
+        (ap rowsFilled (sym (read .contents) ∙ answer) ∙ sym (filled-given (contentsOut (contentsOf b .edition) (contentsOf b .parameters) n) refl))
 
-    -- The parameters and the rows that were read, handed in again, are what the book says.
-    pub contents-again : contentsIn (r .parameters) (take (r .rows) rows′) ≡ contentsOf b
+    -- The edition, the parameters and the rows that were read, handed in again, are what the book says.
+    pub contents-again : contentsIn (r .edition) (r .parameters) (take (r .rows) rows′) ≡ contentsOf b
     contents-again =
-        ap₂ (λ (c : OzpContents) (l : List OzpRow). contentsIn (c .parameters) (take (c .rows) l)) answer array
+        ap₂ (λ (c : OzpContents) (l : List OzpRow). contentsIn (c .edition) (c .parameters) (take (c .rows) l)) answer array
         ∙ (λ i. record {
-          parameters = parameters-again (contentsOf b .parameters) n i;
+          edition = contentsOf b .edition;
+          parameters = parameters-again (contentsOf b .edition) (contentsOf b .parameters) n i;
           offers = rows-again (passed-room b (length rows) passed) i;
         })
 
     -- Of a sound book that is read, the call writes back the same bytes wherever there is room for them.
     pub read-written-back : ((i : ℕ) → i < length b → byte b i < 256) → soundFault b ≡ Passed
         → (room : List ℕ) {s : OzpText} {room′ : List ℕ} → length b ≤ length room
-        → Wrote (contentsIn (r .parameters) (take (r .rows) rows′)) room s room′
+        → Wrote (contentsIn (r .edition) (r .parameters) (take (r .rows) rows′)) room s room′
         → (s ≡ textGiven (length b)) × (room′ ≡ b ++ drop (length b) room)
     read-written-back bytes sound room long w = sound-written b bytes sound room long (rw contents-again at w)

@@ -17,8 +17,9 @@ use Rattle.values.specs.declared.place.Offer.{Offer}
 use Rattle.encoding.specs.Numbers.{zeros}
 use Rattle.encoding.specs.Widths.{ValueFits, OfferFits}
 use Rattle.encoding.proofs.Digits.{length-zeros}
-use Rattle.writer.specs.inner.Rows.{putRow, putRows}
-use Rattle.writer.proofs.Raw.{raw, rawBook, rows-put, length-raw}
+use Rattle.places.specs.inner.Rows.{putRow, putRows}
+use Rattle.writer.proofs.Raw.{length-rawBook}
+use Rattle.writer.proofs.Placed.{rows-put}
 use Rattle.plain.specs.Given.{valueIn, offerIn, contentsIn, parametersIn}
 use Rattle.plain.specs.declared.structs.OzpParameters.{OzpParameters}
 use Rattle.plain.specs.declared.structs.OzpRow.{OzpRow}
@@ -29,58 +30,56 @@ use Rattle.lent.specs.inner.Finished.{Finished}
 use Rattle.lent.proofs.Writes.{finished-wrote}
 
 -- the book in which the first i rows are put
-abbrev pub placed : List OzpRow → ℕ → List ℕ
-placed rows i = putRows (zeros 20992) 0 (take i (map offerIn rows))
+abbrev pub placed : ℕ → List OzpRow → ℕ → List ℕ
+placed edition rows i = putRows (zeros 20992) edition 0 (take i (map offerIn rows))
 
 zeros-are : (n : ℕ) → replicate n 0 ≡ zeros n
 unfolding zeros
 zeros-are zero = refl
 zeros-are (suc n) = ap (λ (s : List ℕ). 0 ∷ s) (zeros-are n)
 
-pub placed-none : (rows : List OzpRow) → replicate 20992 0 ≡ placed rows 0
+pub placed-none : (edition : ℕ) (rows : List OzpRow) → replicate 20992 0 ≡ placed edition rows 0
 unfolding putRows
-placed-none rows = zeros-are 20992
+placed-none edition rows = zeros-are 20992
 
 -- one row more, at the end
-rows-one : (b : List ℕ) (i : ℕ) (offers : List Offer) (o : Offer)
-    → putRow (putRows b i offers) (i + length offers) o ≡ putRows b i (offers ++ o ∷ [])
+rows-one : (b : List ℕ) (edition i : ℕ) (offers : List Offer) (o : Offer)
+    → putRow (putRows b edition i offers) edition (i + length offers) o ≡ putRows b edition i (offers ++ o ∷ [])
 unfolding putRows
-rows-one b i [] o = ap (λ (j : ℕ). putRow b j o) (add-zero i)
-rows-one b i (p ∷ offers) o =
-    ap (λ (j : ℕ). putRow (putRows (putRow b i p) (suc i) offers) j o) (add-suc i (length offers) ∙ sym (suc-add i (length offers)))
-    ∙ rows-one (putRow b i p) (suc i) offers o
+rows-one b edition i [] o = ap (λ (j : ℕ). putRow b edition j o) (add-zero i)
+rows-one b edition i (p ∷ offers) o =
+    ap (λ (j : ℕ). putRow (putRows (putRow b edition i p) edition (suc i) offers) edition j o) (add-suc i (length offers) ∙ sym (suc-add i (length offers)))
+    ∙ rows-one (putRow b edition i p) edition (suc i) offers o
 
-pub placed-next : (rows : List OzpRow) (i : ℕ) (d : OzpRow) → i < length rows
-    → putRow (placed rows i) i (offerIn (getD rows i d)) ≡ placed rows (suc i)
-placed-next rows i d l =
+pub placed-next : (edition : ℕ) (rows : List OzpRow) (i : ℕ) (d : OzpRow) → i < length rows
+    → putRow (placed edition rows i) edition i (offerIn (getD rows i d)) ≡ placed edition rows (suc i)
+placed-next edition rows i d l =
     let offers : List Offer = map offerIn rows in
     let many : length offers ≡ length rows = length-map rows offerIn in
     let count : 0 + length (take i offers) ≡ i = zero-add (length (take i offers)) ∙ length-take-le i offers (omega (arith, many)) in
-    ap₂ (λ (j : ℕ) (o : Offer). putRow (placed rows i) j o) (sym count) (sym (List·getD-map offerIn rows i d))
-    ∙ rows-one (zeros 20992) 0 (take i offers) (getD offers i (offerIn d))
-    ∙ ap (putRows (zeros 20992) 0) (sym (take-suc offers i (offerIn d) (omega (arith, many))))
+    ap₂ (λ (j : ℕ) (o : Offer). putRow (placed edition rows i) edition j o) (sym count) (sym (List·getD-map offerIn rows i d))
+    ∙ rows-one (zeros 20992) edition 0 (take i offers) (getD offers i (offerIn d))
+    ∙ ap (putRows (zeros 20992) edition 0) (sym (take-suc offers i (offerIn d) (omega (arith, many))))
 
-pub length-placed : (rows : List OzpRow) (i : ℕ) → i ≤ 600 → length (placed rows i) ≡ 20992
-length-placed rows i few =
+pub length-placed : (edition : ℕ) (rows : List OzpRow) (i : ℕ) → i ≤ 600 → length (placed edition rows i) ≡ 20992
+length-placed edition rows i few =
     let some : List Offer = take i (map offerIn rows) in
     let count : length some ≤ 600 = omega (arith, length-take i (map offerIn rows)) in
-    ap length (rows-put some count)
-    ∙ length-append (zeros 512) (raw 40 some)
-    ∙ ap₂ _+_ (length-zeros 512) (length-raw 40 some)
+    ap length (rows-put edition some count) ∙ length-rawBook edition _
 
 -- all that are put: a book has 600
-pub placed-all : (rows : List OzpRow) → placed rows (min (length rows) 600) ≡ placed rows 600
-placed-all rows =
+pub placed-all : (edition : ℕ) (rows : List OzpRow) → placed edition rows (min (length rows) 600) ≡ placed edition rows 600
+placed-all edition rows =
     let offers : List Offer = map offerIn rows in
     let many : length offers ≡ length rows = length-map rows offerIn in
     by-order (length rows) 600
     (λ few.
     let all : min (length rows) 600 ≡ length rows = omega arith in
-    ap (placed rows) all
-    ∙ ap (putRows (zeros 20992) 0) (take-all (length rows) offers (omega (arith, many)) ∙ sym (take-all 600 offers (omega (arith, many)))))
+    ap (placed edition rows) all
+    ∙ ap (putRows (zeros 20992) edition 0) (take-all (length rows) offers (omega (arith, many)) ∙ sym (take-all 600 offers (omega (arith, many)))))
     (λ more.
     let most : min (length rows) 600 ≡ 600 = omega arith in
-    ap (placed rows) most)
+    ap (placed edition rows) most)
 
 -- ---- what a row's numbers fit
 
@@ -120,17 +119,16 @@ getD-any (o ∷ l) zero d e h = refl
 getD-any (o ∷ l) (suc i) d e h = getD-any l i d e (omega arith)
 
 -- what is made of the rows that were put is what writing means
-pub placed-wrote : (p : OzpParameters) (rows : List OzpRow) (d : OzpRow) (room : List ℕ) {r : OzpText} {b′ room′ : List ℕ}
+pub placed-wrote : (edition : ℕ) (p : OzpParameters) (rows : List OzpRow) (d : OzpRow) (room : List ℕ) {r : OzpText} {b′ room′ : List ℕ}
     → ((i : ℕ) → i < min (length rows) 600 → OfferFits (offerIn (getD rows i d)))
-    → Finished (parametersIn p) (length rows) (placed rows (min (length rows) 600)) room r b′ room′
-    → Wrote (contentsIn p rows) room r room′
-placed-wrote p rows d room {r} {b′} {room′} fit f =
+    → Finished edition (parametersIn p) (length rows) (placed edition rows (min (length rows) 600)) room r b′ room′
+    → Wrote (contentsIn edition p rows) room r room′
+placed-wrote edition p rows d room {r} {b′} {room′} fit f =
     let offers : List Offer = map offerIn rows in
     let many : length offers ≡ length rows = length-map rows offerIn in
-    finished-wrote (parametersIn p) offers (placed rows (min (length rows) 600)) room {b′ = b′}
+    finished-wrote (contentsIn edition p rows) (placed edition rows (min (length rows) 600)) room {b′ = b′} (rw many f)
     (λ i l few. fits-there i (omega (arith, many)) (fit i (omega (arith, many))))
-    (placed-all rows)
-    (rw many f)
+    (placed-all edition rows)
   where
     fits-there : (i : ℕ) → i < length rows → OfferFits (offerIn (getD rows i d)) → OfferFits (offerAt (map offerIn rows) i)
     fits-there i l h =

@@ -1,107 +1,137 @@
 -- What is done with the rows of a book is what writing the contents means.
 --
--- In order: a verdict, by cases; where no row is too many, the book and its faults; where one is; both.
+-- In order: contents that pass; a call that is refused; where no row is too many, the faults and the book; where one is; both.
 -- Assumes nothing.
 use mathlib.Core.Path.{_≡_, refl, sym, ap, ap₂, _∙_}
-use mathlib.Core.Bool.{false}
+use mathlib.Core.Bool.{true, false}
 use mathlib.Core.List.{List, _++_}
 use Prim.Native.Nat.{ℕ, _≤_, _<_}
 use native.Mathlib.Omega.{arith}
 use lib.Dec.{leb}
 use lib.ListN.{length, take, drop}
 use lib.Seq.{take-all}
-use borrow.Author.Tests.{le-leb, lt-leb}
-use Rattle.laws.proofs.Cases.{by-order}
+use borrow.Author.Tests.{leb-true, lt-leb}
+use Rattle.laws.proofs.Cases.{by-order, by-test}
 use Rattle.values.specs.Contents.{Contents, offerAt}
-use Rattle.values.specs.Refusals.{unless, andThen, tooManyRows, shortRoom, bufferBy}
+use Rattle.values.specs.Refusals.{unless, andThen, shortRoom, bufferBy}
 use Rattle.values.specs.declared.Verdict.{Verdict}
 use Rattle.values.specs.declared.Verdict.the-variants.{Passed, Refused}
 use Rattle.values.specs.declared.head.Parameters.{Parameters}
-use Rattle.values.specs.declared.place.Offer.{Offer}
-use Rattle.layout.specs.Form.{offerCount}
-use Rattle.layout.specs.Read.{rowOffers, contentsOf}
-use Rattle.limits.specs.Parameters.{rangeFault}
-use Rattle.limits.specs.Offers.{rowsFault}
+use Rattle.values.proofs.Firsts.{unless-passed, andThen-left, andThen-right}
+use Rattle.layout.specs.Layout.{editionKnown}
 use Rattle.book.specs.Faults.{givenFault}
 use Rattle.encoding.specs.Numbers.{zeros}
 use Rattle.encoding.specs.Encode.{encode}
-use Rattle.encoding.specs.Widths.{OfferFits}
+use Rattle.encoding.specs.Widths.{OfferFits, OffersFit}
 use Rattle.encoding.specs.inner.Fits.{Fits}
 use Rattle.encoding.proofs.Book.{encode-length}
-use Rattle.encoding.proofs.Form.{encode-count}
-use Rattle.encoding.proofs.Encoded.{read-encoded}
-use Rattle.writer.specs.Writing.{countFault, writeFault}
-use Rattle.writer.specs.inner.Rows.{putRows}
-use Rattle.writer.specs.inner.Made.{bytesFor, bookMade, beforeMade, madeFault}
-use Rattle.writer.proofs.Raw.{rows-put}
-use Rattle.writer.proofs.Books.{book-encoded}
-use Rattle.writer.proofs.Ranges.{range-fits}
+use Rattle.places.specs.inner.Rows.{putRows}
+use Rattle.making.specs.inner.Made.{bookMade}
+use Rattle.writer.specs.Writing.{editionFault, countFault, writeFault}
+use Rattle.writer.specs.inner.Made.{bytesFor, beforeMade, madeFault}
+use Rattle.writer.proofs.Faults.{by-verdict, given-fits, made-fault, made-bytes}
 use Rattle.plain.specs.declared.structs.OzpText.{OzpText}
 use Rattle.words.specs.Texts.{textGiven, textBy}
 use Rattle.lent.specs.Wrote.{Wrote}
 use Rattle.lent.specs.inner.Finished.{finishFault, Finished}
 
-by-verdict {ℓ} : {X : Type ℓ} (v : Verdict) → (v ≡ Passed → X) → ((number place : ℕ) → v ≡ Refused number place → X) → X
-by-verdict Passed f g = f refl
-by-verdict (Refused number place) f g = g number place refl
+-- ---- contents that pass
 
-module _ (p : Parameters) (offers : List Offer) where
-  abbrev c : Contents
-  c = record { parameters = p; offers = offers }
+module _ (c : Contents) (room : ℕ) (passed : writeFault c room ≡ Passed) where
+  edition-passed : editionFault c ≡ Passed
+  unfolding writeFault
+  edition-passed = andThen-left (editionFault c) _ passed
 
-  abbrev n : ℕ
-  n = length offers
+  from-count : andThen (countFault c) (andThen (givenFault c) (unless (leb (length (encode c)) room) shortRoom)) ≡ Passed
+  unfolding writeFault
+  from-count = andThen-right (editionFault c) _ passed
 
-  -- ---- no row is too many
+  pub given-passed : givenFault c ≡ Passed
+  given-passed = andThen-left (givenFault c) _ (andThen-right (countFault c) _ from-count)
 
-  module _ (few : n ≤ 600) (fit : (row : ℕ) → row < n → OfferFits (offerAt offers row)) (b : List ℕ)
-      (rows : b ≡ putRows (zeros 20992) 0 offers) where
-    -- the bytes of the book that is made
-    bytes : take (bytesFor n) (bookMade p n b) ≡ encode c
-    bytes = ap (λ (l : List ℕ). take (bytesFor n) (bookMade p n l)) (rows ∙ rows-put offers few) ∙ book-encoded c few
+  known : editionKnown (c .edition) ≡ true
+  unfolding editionFault
+  known = unless-passed (editionKnown (c .edition)) 3 0 edition-passed
 
-    -- the rows that are read from it, where the parameters pass
-    rows-back : rangeFault p ≡ Passed → rowOffers (encode c) 1 n ≡ offers
-    unfolding contentsOf
-    rows-back e =
-        let fits : Fits c = record { few = few; parameters = range-fits p e; offers = fit } in
-        ap (rowOffers (encode c) 1) (sym (encode-count c fits)) ∙ ap (λ (d : Contents). d .offers) (read-encoded c fits)
+  few : length (c .offers) ≤ 600
+  unfolding countFault
+  few = leb-true (length (c .offers)) 600 (unless-passed (leb (length (c .offers)) 600) 19 0 (andThen-left (countFault c) _ from-count))
 
-    faults : (room : ℕ) → finishFault p n b room ≡ writeFault c room
-    unfolding finishFault madeFault beforeMade writeFault countFault givenFault
-    faults room =
-        by-verdict (rangeFault p)
-        (λ e. rw (le-leb n 600 few, e, bytes, rows-back e, encode-length c) refl)
-        (λ number place e. rw (le-leb n 600 few, e) refl)
+  pub passed-fits : OffersFit (c .offers) → Fits c
+  passed-fits fit = given-fits c few known given-passed fit
 
-    wrote-few : (room : List ℕ) {r : OzpText} {b′ room′ : List ℕ} → Finished p n b room r b′ room′ → Wrote c room r room′
-    wrote-few room f =
-        record {
-          answered = f .answered ∙ ap₂ (λ (v : Verdict) (k : ℕ). textBy v (textGiven k)) (faults (length room)) (sym (encode-length c));
-          room-holds =
-              f .room-holds
-              ∙ ap₂ (λ (v : Verdict) (l : List ℕ). bufferBy v room (l ++ drop (bytesFor n) room)) (faults (length room)) bytes
-              ∙ ap (λ (k : ℕ). bufferBy (writeFault c (length room)) room (encode c ++ drop k room)) (sym (encode-length c));
-        }
+-- tests of which the first two are tested together
+andThen-assoc : (u v w : Verdict) → andThen (andThen u v) w ≡ andThen u (andThen v w)
+andThen-assoc Passed v w = refl
+andThen-assoc (Refused number place) v w = refl
 
-  -- ---- a row is too many
+module _ (c : Contents) (b room : List ℕ) {r : OzpText} {b′ room′ : List ℕ}
+    (f : Finished (c .edition) (c .parameters) (length (c .offers)) b room r b′ room′)
+  where
+    abbrev edition : ℕ
+    edition = c .edition
 
-  wrote-many : (b room : List ℕ) {r : OzpText} {b′ room′ : List ℕ} → 600 < n → Finished p n b room r b′ room′ → Wrote c room r room′
-  unfolding finishFault madeFault beforeMade writeFault countFault
-  wrote-many b room l f =
-      let made : finishFault p n b (length room) ≡ tooManyRows = rw (lt-leb n 600 l) refl in
-      let wrote : writeFault c (length room) ≡ tooManyRows = rw (lt-leb n 600 l) refl in
-      record {
-        answered = rw wrote (f .answered ∙ ap (λ (v : Verdict). textBy v (textGiven (bytesFor n))) made);
-        room-holds = rw wrote (f .room-holds ∙ ap (λ (v : Verdict). bufferBy v room (take (bytesFor n) (bookMade p n b) ++ drop (bytesFor n) room)) made);
-      }
+    abbrev p : Parameters
+    p = c .parameters
 
-  -- What is made of rows that stand in their places is what writing the contents means.
-  pub finished-wrote : (b room : List ℕ) {r : OzpText} {b′ room′ : List ℕ}
-      → ((row : ℕ) → row < n → row < 600 → OfferFits (offerAt offers row))
-      → b ≡ putRows (zeros 20992) 0 (take 600 offers) → Finished p n b room r b′ room′ → Wrote c room r room′
-  finished-wrote b room fit rows f =
-      by-order n 600
-      (λ few.
-      wrote-few few (λ row l. fit row l (omega arith)) b (rows ∙ ap (putRows (zeros 20992) 0) (take-all 600 offers few)) room f)
-      (λ many. wrote-many b room many f)
+    abbrev n : ℕ
+    n = length (c .offers)
+
+    -- ---- a call that is refused
+
+    wrote-refused : (number place : ℕ) → finishFault edition p n b (length room) ≡ Refused number place
+        → writeFault c (length room) ≡ Refused number place → Wrote c room r room′
+    wrote-refused number place found faults = record {
+      answered = rw faults (f .answered ∙ ap (λ (v : Verdict). textBy v (textGiven (bytesFor n))) found);
+      room-holds =
+          rw faults
+          (f .room-holds ∙ ap (λ (v : Verdict). bufferBy v room (take (bytesFor n) (bookMade edition p n b) ++ drop (bytesFor n) room)) found);
+    }
+
+    -- ---- no row is too many
+
+    module _ (few-rows : n ≤ 600) (fit : OffersFit (c .offers)) (put : b ≡ putRows (zeros 20992) edition 0 (c .offers)) where
+      same-fault : finishFault edition p n b (length room) ≡ writeFault c (length room)
+      unfolding finishFault writeFault
+      same-fault =
+          let room-for : ℕ → Verdict = λ k. unless (leb k (length room)) shortRoom in
+          ap₂ (λ (v : Verdict) (k : ℕ). andThen v (room-for k)) (made-fault c few-rows fit b put) (sym (encode-length c))
+          ∙ andThen-assoc (editionFault c) _ _
+          ∙ ap (andThen (editionFault c)) (andThen-assoc (countFault c) (givenFault c) (room-for (length (encode c))))
+
+      wrote-passed : writeFault c (length room) ≡ Passed → Wrote c room r room′
+      wrote-passed e =
+          let bytes = made-bytes c few-rows fit b put (given-passed c (length room) e) in
+          let found = same-fault ∙ e in
+          record {
+            answered =
+                rw e
+                (f .answered ∙ ap₂ (λ (v : Verdict) (k : ℕ). textBy v (textGiven k)) found (sym (encode-length c)));
+            room-holds =
+                rw e
+                (f .room-holds
+                ∙ ap₂ (λ (v : Verdict) (l : List ℕ). bufferBy v room (l ++ drop (bytesFor n) room)) found bytes
+                ∙ ap (λ (k : ℕ). encode c ++ drop k room) (sym (encode-length c)));
+          }
+
+      wrote-few : Wrote c room r room′
+      wrote-few =
+          by-verdict (writeFault c (length room)) wrote-passed (λ number place e. wrote-refused number place (same-fault ∙ e) e)
+
+    -- ---- a row is too many
+
+    wrote-many : 600 < n → Wrote c room r room′
+    unfolding finishFault madeFault beforeMade writeFault editionFault countFault
+    wrote-many l =
+        by-test (editionKnown edition)
+        (λ k. wrote-refused 19 0 (rw (k, lt-leb n 600 l) refl) (rw (k, lt-leb n 600 l) refl))
+        (λ none. wrote-refused 3 0 (rw none refl) (rw none refl))
+
+    -- What is made of rows that stand in their places is what writing the contents means.
+    pub finished-wrote : ((row : ℕ) → row < n → row < 600 → OfferFits (offerAt (c .offers) row))
+        → b ≡ putRows (zeros 20992) edition 0 (take 600 (c .offers)) → Wrote c room r room′
+    finished-wrote fit put =
+        by-order n 600
+        (λ l.
+        wrote-few l (λ row there. fit row there (omega arith)) (put ∙ ap (putRows (zeros 20992) edition 0) (take-all 600 (c .offers) l)))
+        wrote-many

@@ -29,11 +29,11 @@ use Rattle.encoding.proofs.Form.{encode-form}
 use Rattle.encoding.proofs.Encoded.{read-encoded, encode-injective}
 use Rattle.encoding.proofs.ReadFits.{read-fits}
 use Rattle.encoding.proofs.BookRead.{encode-read}
-use Rattle.writer.specs.Writing.{countFault, writeFault}
-use Rattle.writer.proofs.Ranges.{range-fits}
+use Rattle.writer.specs.Writing.{editionFault, countFault, writeFault}
 use Rattle.plain.specs.declared.structs.OzpText.{OzpText}
 use Rattle.words.specs.Texts.{textGiven, textRefused, textBy}
 use Rattle.lent.specs.Wrote.{Wrote}
+use Rattle.lent.proofs.Writes.{given-passed, passed-fits}
 
 -- ---- a verdict, by what is answered of it
 
@@ -47,26 +47,6 @@ refused-by (Refused m p) n number place e =
 passed-by : (v : Verdict) (n : ℕ) → textBy v (textGiven n) .kind ≡ 1 → v ≡ Passed
 passed-by Passed n e = refl
 passed-by (Refused m p) n e = absurd (omega (arith, e))
-
--- ---- contents that pass
-
-module _ (c : Contents) (room : ℕ) (passed : writeFault c room ≡ Passed) where
-  count-passed : countFault c ≡ Passed
-  unfolding writeFault
-  count-passed = andThen-left (countFault c) _ passed
-
-  given-passed : givenFault c ≡ Passed
-  unfolding writeFault
-  given-passed = andThen-left (givenFault c) _ (andThen-right (countFault c) _ passed)
-
-  few : length (c .offers) ≤ 600
-  unfolding countFault
-  few = leb-true (length (c .offers)) 600 (unless-passed (leb (length (c .offers)) 600) 19 0 count-passed)
-
-  passed-fits : OffersFit (c .offers) → Fits c
-  unfolding givenFault
-  passed-fits fit =
-      record { few = few; parameters = range-fits (c .parameters) (andThen-left (rangeFault (c .parameters)) _ given-passed); offers = fit }
 
 -- ---- one call
 
@@ -142,14 +122,15 @@ module _ (b : List ℕ) (bytes : (i : ℕ) → i < length b → byte b i < 256) 
   -- Of a sound book it is written, wherever there is room.
   pub sound-written : soundFault b ≡ Passed → (room : List ℕ) {r : OzpText} {room′ : List ℕ} → length b ≤ length room
       → Wrote (contentsOf b) room r room′ → (r ≡ textGiven (length b)) × (room′ ≡ b ++ drop (length b) room)
-  unfolding soundFault writeFault countFault
+  unfolding soundFault writeFault editionFault countFault
   sound-written sound room long w =
       let formed : formFault b ≡ Passed = andThen-left (formFault b) _ sound in
       let same : encode (contentsOf b) ≡ b = encode-read b bytes formed in
-      let count : length (contentsOf b .offers) ≤ 600 = read-fits b bytes formed .few in
+      let fits : Fits (contentsOf b) = read-fits b bytes formed in
       let room-for : length (encode (contentsOf b)) ≤ length room = rw same long in
       let passed : writeFault (contentsOf b) (length room) ≡ Passed =
-      andThen-next (countFault (contentsOf b)) _ (unless-true _ _ (le-leb _ 600 count))
+      andThen-next (editionFault (contentsOf b)) _ (unless-true _ _ (fits .edition))
+      ∙ andThen-next (countFault (contentsOf b)) _ (unless-true _ _ (le-leb _ 600 (fits .few)))
       ∙ andThen-next (givenFault (contentsOf b)) _ (andThen-right (formFault b) _ sound)
       ∙ unless-true (leb (length (encode (contentsOf b))) (length room)) shortRoom (le-leb _ _ room-for) in
       rw same at (write-passed (contentsOf b) room w passed)

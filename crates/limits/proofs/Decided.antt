@@ -2,9 +2,9 @@
 -- bytes and the resource numbers lie.
 --
 -- In order: the years that go by the margin, 4 by the marks and in a block 0, numbers within limits, 5, 4 and 5 of parameters
--- outside a book, 6 and 7 of an offer, 8.
+-- outside a book, the steps of an edition, 6 and 7 of an offer, 6, 7 and 10 of a row past step 1, 8.
 -- Assumes nothing.
-use mathlib.Core.Path.{_≡_, sym, ap, _∙_}
+use mathlib.Core.Path.{_≡_, sym, ap, ap₂, _∙_}
 use mathlib.Core.Bool.{Bool}
 use mathlib.Core.List.{List}
 use Prim.Native.Nat.{ℕ}
@@ -25,7 +25,9 @@ use Rattle.limits.proofs.parameters.within.Reads as within
 use Rattle.limits.proofs.parameters.given_within.Reads as given-within
 use Rattle.limits.proofs.parameters.parameter_fault.Reads as parameter-fault
 use Rattle.limits.proofs.given.parameters_verdict.Reads as parameters-verdict
+use Rattle.limits.proofs.offers.step_within.Reads as step-within
 use Rattle.limits.proofs.offers.offer_fault.Reads as offer-fault
+use Rattle.limits.proofs.offers.past_fault.Reads as past-fault
 use Rattle.limits.proofs.repeated.with_repeats.Reads as with-repeats
 
 -- whether a year's curve goes by the margin, by the contract of `by_margin`
@@ -68,17 +70,33 @@ pub parameters-verdict-decided : (p : Parameters) (r s : Verdict)
     → parameters-verdict.Post tt (p, tt) r (p, tt) → parameters-verdict.Post tt (p, tt) s (p, tt) → r ≡ s
 parameters-verdict-decided p r s e f = e ∙ sym f
 
--- 6, where prices are needed, and 7, by the contract of `offer_fault`
-pub offer-fault-decided : (pricesNeeded : Bool) (o : Offer) (row : ℕ) (r s : Verdict)
-    → offer-fault.Post tt (pricesNeeded, (o, (row, tt))) r (pricesNeeded, (o, (row, tt)))
-    → offer-fault.Post tt (pricesNeeded, (o, (row, tt))) s (pricesNeeded, (o, (row, tt))) → r ≡ s
-offer-fault-decided pricesNeeded o row r s e f = e ∙ sym f
+-- whether an edition can have a step, by the contract of `step_within`
+pub step-within-decided : (edition step : ℕ) (r s : Bool)
+    → step-within.Post tt (edition, (step, tt)) r (edition, (step, tt))
+    → step-within.Post tt (edition, (step, tt)) s (edition, (step, tt)) → r ≡ s
+step-within-decided edition step r s e f = e ∙ sym f
+
+-- 6 and 7, by the contract of `offer_fault`
+pub offer-fault-decided : (needed : Bool) (edition : ℕ) (o : Offer) (row : ℕ) (r s : Verdict)
+    → offer-fault.Post tt (needed, (edition, (o, (row, tt)))) r (needed, (edition, (o, (row, tt))))
+    → offer-fault.Post tt (needed, (edition, (o, (row, tt)))) s (needed, (edition, (o, (row, tt)))) → r ≡ s
+offer-fault-decided needed edition o row r s e f = e ∙ sym f
+
+-- 6, 7 and 10 past step 1, by the contract of `past_fault`
+pub past-fault-decided : (needed : Bool) (edition : ℕ) (o : Offer) (follows : Bool) (row : ℕ) (r s : Verdict)
+    → past-fault.Post tt (needed, (edition, (o, (follows, (row, tt))))) r (needed, (edition, (o, (follows, (row, tt)))))
+    → past-fault.Post tt (needed, (edition, (o, (follows, (row, tt))))) s (needed, (edition, (o, (follows, (row, tt)))))
+    → r ≡ s
+past-fault-decided needed edition o follows row r s e f = e ∙ sym f
 
 -- the first fault of n rows, by the contract of `with_repeats`
-pub with-repeats-decided : (κs : Lfts 1) (found : Verdict) (resources others : RefT (List ℕ)) (n : ℕ) (r s : Verdict)
+pub with-repeats-decided : (κs : Lfts 2) (found : Verdict) (resources others steps counts : RefT (List ℕ)) (n : ℕ) (r s : Verdict)
     → now resources ≡ now others
-    → with-repeats.Post κs (found, (resources, (n, tt))) r (found, (resources, (n, tt)))
-    → with-repeats.Post κs (found, (others, (n, tt))) s (found, (others, (n, tt)))
+    → now steps ≡ now counts
+    → with-repeats.Post κs (found, (resources, (steps, (n, tt)))) r (found, (resources, (steps, (n, tt))))
+    → with-repeats.Post κs (found, (others, (counts, (n, tt)))) s (found, (others, (counts, (n, tt))))
     → r ≡ s
-with-repeats-decided κs found resources others n r s same e f =
-    e ∙ ap (λ (rows : List ℕ). withRepeats found (λ row. getD rows row 0) n) same ∙ sym f
+with-repeats-decided κs found resources others steps counts n r s same alike e f =
+    e
+    ∙ ap₂ (λ (rows marks : List ℕ). withRepeats found (λ row. getD rows row 0) (λ row. getD marks row 0) n) same alike
+    ∙ sym f

@@ -2,8 +2,10 @@ pub mod Marks
 pub mod Tested
 pub mod Prices
 pub mod Lowest
+pub mod SecondPass
 pub mod Rows
 pub mod Passing
+pub mod PassingOffers
 pub mod PassingRows
 pub mod Margins
 pub mod Decided

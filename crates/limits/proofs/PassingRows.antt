@@ -1,99 +1,105 @@
--- What rows that passed the tests are: offers within the outline's ranges, priced where prices are needed, and with resource
--- numbers that all differ.
+-- What rows that passed the tests are: offers of a sound book, priced where prices are needed, each the first step of its resource
+-- or behind the step before it, and no two with one resource number and one step.
 --
--- In order: an offer within its ranges, one that has a price; what a row without fault passed; the rows.
+-- In order: what a row without fault passed, by 6 and 7, by 8, by 10; rows that have one resource number and one step;
+-- rows that are priced, and rows of edition 1.
 -- Assumes nothing.
-use mathlib.Core.Path.{_≡_, refl, sym}
-use mathlib.Core.Bool.{Bool, true, cond}
-use Prim.Native.Nat.{ℕ, _<_}
+use mathlib.Core.Path.{_≡_, refl, sym, _∙_}
+use mathlib.Core.Bool.{Bool, true}
+use Prim.Native.Nat.{ℕ, zero, suc, _-_, _<_}
 use native.Mathlib.Omega.{arith}
-use lib.Dec.{leb}
-use borrow.Author.Tests.{leb-true}
-use Rattle.laws.proofs.Cases.{by-order, and-left, and-right}
-use Rattle.values.specs.Values.{held}
+use borrow.Author.Tests.{eq-eqb, eqb-true}
+use Rattle.laws.proofs.Cases.{by-order, by-equality}
 use Rattle.values.specs.Refusals.{andThen}
-use Rattle.values.specs.declared.Value.{Value}
-use Rattle.values.specs.declared.Value.the-variants.{Given, Missing}
 use Rattle.values.specs.declared.Verdict.the-variants.{Passed}
 use Rattle.values.specs.declared.place.Offer.{Offer}
 use Rattle.values.proofs.Firsts.{unless-passed, andThen-left, andThen-right, first-at}
-use Rattle.limits.specs.Parameters.{within, givenWithin}
-use Rattle.repeats.specs.Repeats.{fresh}
-use Rattle.limits.specs.Offers.{priceFault, offerInRange, offerFault, repeatFault, rowsFault}
+use Rattle.repeats.specs.Repeats.{fresh, noRepeat}
+use Rattle.repeats.proofs.Fresh.{fresh-differs, repeat-tested}
+use Rattle.steps.specs.Steps.{stepHolds}
+use Rattle.steps.proofs.Following.{Follows, step-past-zero, step-past-follows}
+use Rattle.limits.specs.Offers.{offerFault, repeatFault, stepFault, rowsFault}
 use Rattle.limits.specs.Ranges.{SoundOffer, PricedOffer}
-use Rattle.repeats.proofs.Fresh.{fresh-differs}
-use Rattle.limits.proofs.Passing.{within-from, within-to, given-within}
+use Rattle.limits.proofs.PassingOffers.{offer-step, offer-sound, offer-in-range, offer-priced}
 
--- ---- an offer
-
--- An offer within its ranges has its values within them, those that it gives.
-pub offer-sound : (o : Offer) → offerInRange o ≡ true → SoundOffer o
-unfolding offerInRange
-offer-sound o e =
-    let from1 = and-right (leb 1 (o .resource)) _ e in
-    let from2 = and-right (leb 1 (o .seller)) _ from1 in
-    let from3 = and-right (givenWithin 0 1000000 (o .price)) _ from2 in
-    let price = and-left (givenWithin 0 1000000 (o .price)) _ from2 in
-    let quantity = and-left (within 1 200000 (o .quantity)) _ from3 in
-    let block = and-right (within 1 200000 (o .quantity)) _ from3 in
-    record {
-      resource-from = leb-true 1 (o .resource) (and-left (leb 1 (o .resource)) _ e);
-      seller-from = leb-true 1 (o .seller) (and-left (leb 1 (o .seller)) _ from1);
-      price-to = λ number g. within-to 0 1000000 number (given-within 0 1000000 (o .price) number price g);
-      quantity-from = within-from 1 200000 (o .quantity) quantity;
-      quantity-to = within-to 1 200000 (o .quantity) quantity;
-      block-from = λ number g. within-from 1 (o .quantity) number (given-within 1 (o .quantity) (o .block) number block g);
-      block-to = λ number g. within-to 1 (o .quantity) number (given-within 1 (o .quantity) (o .block) number block g);
-    }
-
-offer-in-range : (pricesNeeded : Bool) (o : Offer) (row : ℕ) → offerFault pricesNeeded o row ≡ Passed → offerInRange o ≡ true
-unfolding offerFault
-offer-in-range pricesNeeded o row e =
-    unless-passed (offerInRange o) 7 row (andThen-right (cond pricesNeeded (priceFault (o .price) row) Passed) _ e)
-
-price-given : (price : Value) (row : ℕ) → priceFault price row ≡ Passed → price ≡ Given (held price)
-price-given (Given number) row e = refl
-price-given Missing row e = cc
-
--- An offer that clearing accepts is one of a sound book, and has a price.
-pub offer-priced : (o : Offer) (row : ℕ) → offerFault true o row ≡ Passed → PricedOffer o
-unfolding offerFault
-offer-priced o row e =
-    let sound = offer-sound o (offer-in-range true o row e) in
-    let given = price-given (o .price) row (andThen-left (priceFault (o .price) row) _ e) in
-    record { sound = sound; price-given = given; price-most = sound .price-to (held (o .price)) given }
-
--- ---- the rows
-
-module _ (pricesNeeded : Bool) (offers : ℕ → Offer) (n : ℕ) (e : rowsFault pricesNeeded offers n ≡ Passed) where
+module _ (pricesNeeded : Bool) (edition : ℕ) (offers : ℕ → Offer) (n : ℕ)
+    (e : rowsFault pricesNeeded edition offers n ≡ Passed) where
   row-passed : (row : ℕ) → row < n
-      → andThen (offerFault pricesNeeded (offers row) row) (repeatFault (λ r. offers r .resource) row) ≡ Passed
+      → andThen (offerFault pricesNeeded edition (offers row) row)
+      (andThen (repeatFault offers row) (stepFault (offers (row - 1)) (offers row) row)) ≡ Passed
   unfolding rowsFault
   row-passed row l = first-at _ n row e l
 
-  -- Each row passes 6 and 7, and its resource number stands in no earlier row.
-  pub rows-values : (row : ℕ) → row < n → offerFault pricesNeeded (offers row) row ≡ Passed
-  rows-values row l = andThen-left (offerFault pricesNeeded (offers row) row) _ (row-passed row l)
+  -- Each row passes 6 and 7.
+  pub rows-values : (row : ℕ) → row < n → offerFault pricesNeeded edition (offers row) row ≡ Passed
+  rows-values row l = andThen-left (offerFault pricesNeeded edition (offers row) row) _ (row-passed row l)
 
   -- Where the rows have no fault, each is an offer of a sound book.
   pub rows-sound : (row : ℕ) → row < n → SoundOffer (offers row)
-  rows-sound row l = offer-sound (offers row) (offer-in-range pricesNeeded (offers row) row (rows-values row l))
+  rows-sound row l = offer-sound edition (offers row) (offer-in-range pricesNeeded edition (offers row) row (rows-values row l))
 
-  pub rows-fresh : (row : ℕ) → row < n → fresh (λ r. offers r .resource) row ≡ true
+  -- It passes 8: the resource number of a row with step 1 stands in no earlier row.
+  pub rows-fresh : (row : ℕ) → row < n → offers row .step ≡ 1 → fresh (λ r. offers r .resource) row ≡ true
   unfolding repeatFault
-  rows-fresh row l =
-      unless-passed (fresh (λ r. offers r .resource) row) 8 row
-      (andThen-right (offerFault pricesNeeded (offers row) row) _ (row-passed row l))
+  rows-fresh row l one =
+      sym (repeat-tested (λ r. offers r .resource) (λ r. offers r .step) row (eq-eqb (offers row .step) 1 one))
+      ∙ unless-passed (noRepeat (λ r. offers r .resource) (λ r. offers r .step) row) 8 row
+      (andThen-left (repeatFault offers row) _ (andThen-right (offerFault pricesNeeded edition (offers row) row) _ (row-passed row l)))
 
-  -- Rows with one resource number are one row.
-  pub rows-distinct : (row other : ℕ) → row < n → other < n → offers row .resource ≡ offers other .resource → row ≡ other
-  rows-distinct row other l m same =
+  -- It passes 10: it keeps the rules of steps.
+  pub rows-steps : (row : ℕ) → row < n → stepHolds (offers (row - 1)) (offers row) row ≡ true
+  unfolding stepFault
+  rows-steps row l =
+      unless-passed (stepHolds (offers (row - 1)) (offers row) row) 10 row
+      (andThen-right (repeatFault offers row) _ (andThen-right (offerFault pricesNeeded edition (offers row) row) _ (row-passed row l)))
+
+  -- A row past step 1 stands behind another, whose offer it follows.
+  pub rows-behind : (row : ℕ) → row < n → (offers row .step ≡ 1 → ⊥) → 0 < row
+  rows-behind row l past = step-past-zero (offers (row - 1)) (offers row) row past (rows-steps row l)
+
+  pub rows-follow : (row : ℕ) → row < n → (offers row .step ≡ 1 → ⊥) → Follows (offers (row - 1)) (offers row)
+  rows-follow row l past = step-past-follows (offers (row - 1)) (offers row) row past (rows-steps row l)
+
+  -- rows with step 1 and one resource number are one row
+  firsts-distinct : (row other : ℕ) → row < n → other < n → offers row .resource ≡ offers other .resource
+      → offers row .step ≡ 1 → offers other .step ≡ 1 → row ≡ other
+  firsts-distinct row other l m same one also =
       by-order row other
       (λ h. by-order other row
       (λ k. omega arith)
-      (λ k. absurd (fresh-differs (λ r. offers r .resource) other row (rows-fresh other m) k same)))
-      (λ k. absurd (fresh-differs (λ r. offers r .resource) row other (rows-fresh row l) k (sym same)))
+      (λ k. absurd (fresh-differs (λ r. offers r .resource) other row (rows-fresh other m also) k same)))
+      (λ k. absurd (fresh-differs (λ r. offers r .resource) row other (rows-fresh row l one) k (sym same)))
+
+  -- so are rows with any step: each stands behind the step before it, and those are one row
+  steps-distinct : (step row other : ℕ) → row < n → other < n → offers row .resource ≡ offers other .resource
+      → offers row .step ≡ step → offers other .step ≡ step → row ≡ other
+  steps-distinct zero row other l m same s t = absurd (omega (arith, rows-sound row l .step-from))
+  steps-distinct (suc step) row other l m same s t =
+      by-equality step 0
+      (λ z. firsts-distinct row other l m same (omega arith) (omega arith))
+      (λ past.
+      let f = rows-follow row l (λ one. past (omega arith)) in
+      let g = rows-follow other m (λ one. past (omega arith)) in
+      let a = rows-behind row l (λ one. past (omega arith)) in
+      let b = rows-behind other m (λ one. past (omega arith)) in
+      let before =
+      steps-distinct step (row - 1) (other - 1) (omega arith) (omega arith) (sym (f .resource) ∙ same ∙ g .resource)
+      (omega (arith, f .step)) (omega (arith, g .step)) in
+      omega arith)
+
+  -- Rows with one resource number and one step are one row.
+  pub rows-distinct : (row other : ℕ) → row < n → other < n → offers row .resource ≡ offers other .resource
+      → offers row .step ≡ offers other .step → row ≡ other
+  rows-distinct row other l m same also = steps-distinct (offers other .step) row other l m same also refl
 
 -- Where clearing's tests find no fault in the rows, each row has a price as well.
-pub rows-priced : (offers : ℕ → Offer) (n : ℕ) → rowsFault true offers n ≡ Passed → (row : ℕ) → row < n → PricedOffer (offers row)
-rows-priced offers n e row l = offer-priced (offers row) row (rows-values true offers n e row l)
+pub rows-priced : (edition : ℕ) (offers : ℕ → Offer) (n : ℕ) → rowsFault true edition offers n ≡ Passed
+    → (row : ℕ) → row < n → PricedOffer (offers row)
+rows-priced edition offers n e row l = offer-priced edition (offers row) row (rows-values true edition offers n e row l)
+
+-- Where rows of edition 1 have no fault, each has step 1.
+pub rows-single : (pricesNeeded : Bool) (offers : ℕ → Offer) (n : ℕ) → rowsFault pricesNeeded 1 offers n ≡ Passed
+    → (row : ℕ) → row < n → offers row .step ≡ 1
+rows-single pricesNeeded offers n e row l =
+    eqb-true (offers row .step) 1
+    (offer-step 1 (offers row) (offer-in-range pricesNeeded 1 (offers row) row (rows-values pricesNeeded 1 offers n e row l)))

@@ -12,6 +12,8 @@ pub record Clearable (c : Contents) : Type 0 where
   pub parameters : Ranged (c .parameters)
   -- every offer has a price, and values within their ranges
   pub priced : (row : ℕ) → row < length (c .offers) → PricedOffer (offerAt (c .offers) row)
-  -- no two rows have one resource number
+  -- no two rows have one resource number and one step
   pub distinct : (row other : ℕ) → row < length (c .offers) → other < length (c .offers)
-      → offerAt (c .offers) row .resource ≡ offerAt (c .offers) other .resource → row ≡ other
+      → offerAt (c .offers) row .resource ≡ offerAt (c .offers) other .resource
+      → offerAt (c .offers) row .step ≡ offerAt (c .offers) other .step
+      → row ≡ other

@@ -36,6 +36,8 @@ pub record SoundOffer (o : Offer) : Type 0 where
   pub quantity-to : o .quantity ≤ 200000
   pub block-from : (block : ℕ) → o .block ≡ Given block → 1 ≤ block
   pub block-to : (block : ℕ) → o .block ≡ Given block → block ≤ o .quantity
+  pub step-from : 1 ≤ o .step
+  pub step-to : o .step ≤ 10
 
 -- An offer that clearing accepts has a price as well.
 pub record PricedOffer (o : Offer) : Type 0 where

@@ -143,17 +143,17 @@ module _ {M : Type 1} (𝓤 : URA M) (H : Heap 𝓤) (A : Atoms 𝓤) (mem : Mem
 -- ---- a book in lent room
 
 module _ {M : Type 1} (𝓤 : URA M) (H : Heap 𝓤) (A : Atoms 𝓤) (mem : Memory → SProp 𝓤) (run : Routine → Fun 𝓤)
-    (κs : Lfts 2) (p : OzpParameters) where
+    (κs : Lfts 2) (edition : ℕ) (p : OzpParameters) where
   -- what the contract of `ozp_write`, which is walked by hand too, says of what is returned and of the room at exit
   abbrev Written : RefT (List OzpRow) → RefT (List ℕ) → OzpText → List ℕ → SProp 𝓤
   Written rows room r room′ =
-      ozp-write.clauses 𝓤 H A mem run κs (p, (rows, (room, tt))) .ensures tt r (atExit ozp-write.ended κs (p, (rows, (room, tt))) (tt, (tt, (room′, tt))))
+      ozp-write.clauses 𝓤 H A mem run κs (edition, (p, (rows, (room, tt)))) .ensures tt r (atExit ozp-write.ended κs (edition, (p, (rows, (room, tt)))) (tt, (tt, (tt, (room′, tt)))))
 
-  -- where it says both of the same parameters, entries and room, both are the same: what is returned, and the room
+  -- where it says both of the same edition, parameters, entries and room, both are the same: what is returned, and the room
   pub ozp-write-decided : (rows₁ rows₂ : RefT (List OzpRow)) (room₁ room₂ : RefT (List ℕ)) (r s : OzpText) (room₁′ room₂′ : List ℕ)
       → now rows₁ ≡ now rows₂ → now room₁ ≡ now room₂
       → ent 𝓤 (conj 𝓤 (Written rows₁ room₁ r room₁′) (Written rows₂ room₂ s room₂′)) (fact 𝓤 ((r ≡ s) × (room₁′ ≡ room₂′)))
   ozp-write-decided rows₁ rows₂ room₁ room₂ r s room₁′ room₂′ e f =
-      guard-conj 𝓤 (Wrote (contentsIn p (now rows₁)) (now room₁) r room₁′) (emp 𝓤) (Written rows₂ room₂ s room₂′)
-      (λ x. conj-guard 𝓤 (Wrote (contentsIn p (now rows₂)) (now room₂) s room₂′) (emp 𝓤) (emp 𝓤)
-      (λ y. factI 𝓤 _ _ (wrote-same (contentsIn p (now rows₁)) (now room₁) r s room₁′ room₂′ x (rw (e, f) y))))
+      guard-conj 𝓤 (Wrote (contentsIn edition p (now rows₁)) (now room₁) r room₁′) (emp 𝓤) (Written rows₂ room₂ s room₂′)
+      (λ x. conj-guard 𝓤 (Wrote (contentsIn edition p (now rows₂)) (now room₂) s room₂′) (emp 𝓤) (emp 𝓤)
+      (λ y. factI 𝓤 _ _ (wrote-same (contentsIn edition p (now rows₁)) (now room₁) r s room₁′ room₂′ x (rw (e, f) y))))

@@ -21,6 +21,11 @@ fn say(form: &[u8], numbers: &[u64]) -> bool {
     io::write_all(STDOUT_FILENO, &text[..end])
 }
 
+// 1 where offers have steps: in edition 2.
+fn has_steps(edition: u32) -> u64 {
+    (edition == 2) as u64
+}
+
 // 1 where a value is given.
 fn if_given(value: Value) -> u64 {
     match value {

@@ -1,4 +1,5 @@
 // A refusal in the words of the table, with its place named.
+use crate::has_steps;
 use crate::if_given;
 use crate::say;
 use values::number_held;
@@ -55,13 +56,14 @@ pub fn say_parameter(number: u32, field: u32) -> bool {
     )
 }
 
-// 6 and 8: a row has no price, or the resource number of an earlier row; and the first lines of 7.
+// 6 and 8: a row has no price, or the resource number of an earlier row; and the first lines of 7 and 10.
 pub fn say_row(number: u32, row: usize, resource: u32, first: usize) -> bool {
     say(
         b"refused # at row #
   row # (resource #) has [||||||no price; a missing price is not zero\
     |a value out of range\
-    |a resource number of an earlier row: row #]
+    |a resource number of an earlier row: row #\
+    ||a step that breaks the rules of steps]
 ",
         &[
             number as u64,
@@ -75,7 +77,7 @@ pub fn say_row(number: u32, row: usize, resource: u32, first: usize) -> bool {
 }
 
 // 7: the values of a row, of which one or more are out of range.
-pub fn say_values(o: Offer) -> bool {
+pub fn say_values(edition: u32, o: Offer) -> bool {
     let price = o.price;
     let block = o.block;
     say(
@@ -84,7 +86,8 @@ pub fn say_values(o: Offer) -> bool {
     price $ (#), from 0.00 to 10000.00 (1000000)
     quantity ~ MW (#), from 0.1 to 20000.0 MW (200000)
     minimum block [not given|~ MW (#), from 0.1 MW (1) to the quantity]
-",
+[|    step #, from 1 to 10
+]",
         &[
             o.resource as u64,
             o.seller as u64,
@@ -92,6 +95,18 @@ pub fn say_values(o: Offer) -> bool {
             o.quantity as u64,
             if_given(block),
             number_held(block) as u64,
+            has_steps(edition),
+            o.step as u64,
         ],
+    )
+}
+
+// 10: the rules of steps, of which one or more are broken.
+pub fn say_rules() -> bool {
+    say(
+        b"    past step 1 the row before has to be the step before of the same resource,
+    at no higher price, and only step 1 may have a minimum block
+",
+        &[],
     )
 }

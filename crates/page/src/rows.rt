@@ -1,21 +1,28 @@
-// A row: its offer, its share of its price level, and what it clears, commits and is paid.
+// A row: its offer, its share of its price level, and what it clears, commits and is paid; and what a resource's steps clear
+// together.
+use crate::has_steps;
 use crate::if_given;
 use crate::say;
 use crate::words_for;
 use values::number_held;
 use values::place::Offer;
 
-// Says a row's offer.
-pub fn say_offer(row: usize, o: Offer) -> bool {
+// Says a row's offer, and in edition 2 which of its resource's steps it is.
+pub fn say_offer(edition: u32, row: usize, o: Offer) -> bool {
     let price = o.price;
     let block = o.block;
+    let stepped = has_steps(edition);
     say(
-        b"row #, resource #: ~ MW (#)[, no price entered| offered at zero| at $ (#)]
+        b"row #, [|step # of ]resource #[: |
+  ]~ MW (#)[, no price entered| offered at zero| at $ (#)]
   [flexible|minimum block ~ MW (#)], stamp #
 ",
         &[
             row as u64,
+            stepped,
+            o.step as u64,
             o.resource as u64,
+            stepped,
             o.quantity as u64,
             words_for(price),
             number_held(price) as u64,
@@ -109,5 +116,15 @@ pub fn say_settled(cleared: u32, committed: u32, mills: u64) -> bool {
             reason(mills, cleared, committed),
             mills,
         ],
+    )
+}
+
+// Says what the steps of a resource clear together, of what they offer.
+pub fn say_together(resource: u32, steps: u32, cleared: u64, offered: u64) -> bool {
+    say(
+        b"resource #, steps 1 to #
+  cleared ~ MW (#) of ~ MW (#)
+",
+        &[resource as u64, steps as u64, cleared, offered],
     )
 }

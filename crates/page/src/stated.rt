@@ -1,4 +1,5 @@
-// What a book states: its parameters, each given or missing.
+// What a book states: its edition where that is 2, and its parameters, each given or missing.
+use crate::has_steps;
 use crate::say;
 use crate::words_for;
 use limits::parameters::by_margin;
@@ -14,8 +15,8 @@ fn margin_words(year: u32, margin: Value) -> u64 {
     }
 }
 
-// Says the parameters and the number of offers.
-pub fn say_stated(p: Parameters, offers: u32) -> bool {
+// Says the edition, where offers have steps in it, the parameters and the number of offers.
+pub fn say_stated(edition: u32, p: Parameters, offers: u32) -> bool {
     let cost = p.cost;
     let offset = p.offset;
     let outage = p.outage;
@@ -23,7 +24,8 @@ pub fn say_stated(p: Parameters, offers: u32) -> bool {
     let margin = p.margin;
     say(
         b"The book states
-  delivery year          #
+[|  edition                2, in which an offer is a step of its resource
+]  delivery year          #
   C, cost of new entry   [missing, which is not zero\
     |0 dollars per MW-year, entered as zero|# dollars per MW-year]
   E, revenue offset      [missing, which is not zero\
@@ -38,6 +40,7 @@ pub fn say_stated(p: Parameters, offers: u32) -> bool {
 
 ",
         &[
+            has_steps(edition),
             p.year as u64,
             words_for(cost),
             number_held(cost) as u64,

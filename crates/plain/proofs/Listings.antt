@@ -2,7 +2,7 @@
 --
 -- In order: its fault; what is answered; how many rows are filled in; a row that the book has; entries filled one by one.
 -- Assumes nothing.
-use mathlib.Core.Path.{_≡_, refl, sym, ap, ap₂, subst, _∙_}
+use mathlib.Core.Path.{_≡_, refl, sym, ap, subst, _∙_}
 use mathlib.Core.List.{List}
 use Prim.Native.Nat.{ℕ, zero, suc, _+_, _*_, _/_, _≤_, _<_}
 use native.Mathlib.Omega.{arith}
@@ -18,7 +18,7 @@ use Rattle.values.specs.declared.head.Parameters.{Parameters}
 use Rattle.values.specs.declared.place.Offer.{Offer}
 use Rattle.values.proofs.Firsts.{andThen-next, andThen-refused, andThen-left, andThen-right, unless-true, unless-false, unless-passed}
 use Rattle.layout.specs.Blocks.{rowBytes}
-use Rattle.layout.specs.Form.{formFault, offerCount}
+use Rattle.layout.specs.Form.{formFault, editionOf, offerCount}
 use Rattle.layout.specs.Read.{contentsOf}
 use Rattle.layout.proofs.Passing.{form-passed-length, form-passed-row}
 use Rattle.layout.proofs.Contained.{contents-offers, contents-count, offer-of-row}
@@ -67,10 +67,11 @@ module _ (b : List ℕ) (entries : ℕ) where
   unfolding exportedContents
   contents-refused number place e = rw e
 
-  pub contents-passed : readFault b entries ≡ Passed → (p : Parameters) (n : ℕ) → p ≡ contentsOf b .parameters → n ≡ rows
-      → contentsOut p n ≡ exportedContents b entries
+  pub contents-passed : readFault b entries ≡ Passed → (edition : ℕ) (p : Parameters) (n : ℕ)
+      → edition ≡ contentsOf b .edition → p ≡ contentsOf b .parameters → n ≡ rows
+      → contentsOut edition p n ≡ exportedContents b entries
   unfolding exportedContents
-  contents-passed e p n f g = ap₂ contentsOut f g ∙ sym (ap (λ v. contentsBy v (contentsOut (contentsOf b .parameters) rows)) e)
+  contents-passed e edition p n d f g = rw (e, d, f, g)
 
   -- ---- how many rows are filled in
 
@@ -80,7 +81,7 @@ module _ (b : List ℕ) (entries : ℕ) where
     room : rows ≤ entries
 
   entered-by : (v : Verdict) → readFault b entries ≡ v → (i : ℕ)
-      → i < rowsFilled (contentsBy v (contentsOut (contentsOf b .parameters) rows)) → Entered i
+      → i < rowsFilled (contentsBy v (contentsOut (contentsOf b .edition) (contentsOf b .parameters) rows)) → Entered i
   unfolding rowsFilled
   entered-by Passed e i l = record { has = record { form = passed-form e; there = l }; room = passed-room e }
   entered-by (Refused number place) e i l = absurd (omega arith)
@@ -111,16 +112,21 @@ module _ (b : List ℕ) (row : ℕ) (has : HasRow b row) where
   counted : row < offerCount b
   counted = subst (λ (n : ℕ). row < n) (sym (contents-count b)) (has .there)
 
-  -- its block lies within the book
+  -- the book has a block 0 that states its edition, and the row's block lies within it
+  pub row-headed : 512 ≤ length b
+  row-headed = form-passed-length b (has .form)
+
   pub row-inside : (1 + row / 15) * 512 + 512 ≤ length b
   row-inside = form-passed-row b (has .form) row counted
 
   -- its values, read from its own bytes
-  pub row-read : (part : List ℕ) (o : Offer) → part ≡ rowBytes b 1 row → o ≡ offerOf part → offerOut o ≡ rowOut b row
+  pub row-read : (part : List ℕ) (edition : ℕ) (o : Offer) → part ≡ rowBytes b 1 row → edition ≡ editionOf b → o ≡ offerOf edition part
+      → offerOut o ≡ rowOut b row
   unfolding rowOut
-  row-read part o e f =
+  row-read part edition o e d f =
       ap offerOut
-      (offer-of-row b 1 (offerCount b) row counted e f ∙ ap (λ (offers : List Offer). offerAt offers row) (contents-offers b))
+      (offer-of-row b (editionOf b) 1 (offerCount b) row counted e (f ∙ ap (λ (n : ℕ). offerOf n part) d)
+      ∙ ap (λ (offers : List Offer). offerAt offers row) (contents-offers b))
 
 -- ---- entries filled one by one
 

@@ -27,8 +27,8 @@ value-again (Given number) = refl
 value-again Missing = refl
 
 -- Parameters that are read from a book and handed in again are the book's own, what is missing among them.
-pub parameters-again : (p : Parameters) (rows : ℕ) → parametersIn (contentsOut p rows .parameters) ≡ p
-parameters-again p rows =
+pub parameters-again : (edition : ℕ) (p : Parameters) (rows : ℕ) → parametersIn (contentsOut edition p rows .parameters) ≡ p
+parameters-again edition p rows =
     λ i. record {
       year = p .year;
       cost = value-again (p .cost) i;
@@ -48,6 +48,7 @@ offer-again o =
       quantity = o .quantity;
       block = value-again (o .block) i;
       stamp = o .stamp;
+      step = o .step;
     }
 
 -- Rows that are shown alike are the same offer: nothing is lost, and no value needs to be in any range.

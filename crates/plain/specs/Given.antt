@@ -1,5 +1,6 @@
 -- What a caller hands in: values, parameters and rows as plain structs of numbers, by the rules of Answers.
 -- Assumes nothing.
+use Prim.Native.Nat.{ℕ}
 use mathlib.Core.Bool.{cond}
 use mathlib.Core.List.{List, map}
 use lib.Dec.{eqb}
@@ -37,8 +38,9 @@ offerIn row =
       quantity = row .quantity;
       block = valueIn (row .block);
       stamp = row .stamp;
+      step = row .step;
     }
 
--- what parameters and rows say together
-abbrev pub contentsIn : OzpParameters → List OzpRow → Contents
-contentsIn p rows = record { parameters = parametersIn p; offers = map offerIn rows }
+-- what an edition, parameters and rows say together
+abbrev pub contentsIn : ℕ → OzpParameters → List OzpRow → Contents
+contentsIn edition p rows = record { edition = edition; parameters = parametersIn p; offers = map offerIn rows }

@@ -39,16 +39,18 @@ offerOut o =
       quantity = o .quantity;
       price = valueOut (o .price);
       block = valueOut (o .block);
+      step = o .step;
     }
 
 -- ---- what a book says besides its rows
 
--- the parameters, with the number of rows
-abbrev pub contentsOut : Parameters → ℕ → OzpContents
-contentsOut p rows =
+-- the edition and the parameters, with the number of rows
+abbrev pub contentsOut : ℕ → Parameters → ℕ → OzpContents
+contentsOut edition p rows =
     record {
       kind = 1;
       rows = rows;
+      edition = edition;
       number = noValue;
       place = noValue;
       parameters =
@@ -71,6 +73,7 @@ contentsRefused number place =
     record {
       kind = 3;
       rows = noValue;
+      edition = noValue;
       number = number;
       place = place;
       parameters =
@@ -88,7 +91,7 @@ contentsBy (Refused number place) contents = contentsRefused number place
 -- what a book says, its rows going into so many entries, or the refusal
 unfoldable pub exportedContents : List ℕ → ℕ → OzpContents
 exportedContents b entries =
-    contentsBy (readFault b entries) (contentsOut (contentsOf b .parameters) (length (contentsOf b .offers)))
+    let c = contentsOf b in contentsBy (readFault b entries) (contentsOut (c .edition) (c .parameters) (length (c .offers)))
 
 -- ---- its rows
 

@@ -35,6 +35,7 @@ pub fn offer_in(row: OzpRow) -> Offer
         quantity: row.quantity,
         block,
         stamp: row.stamp,
+        step: row.step,
     }
 }
 

@@ -1,4 +1,4 @@
-// What a book says, in range or not: its parameters, the number of its rows, and each row.
+// What a book says, in range or not: its edition, its parameters, the number of its rows, and each row.
 use crate::structs::NO_VALUE;
 use crate::structs::OzpContents;
 use crate::structs::OzpParameters;
@@ -6,6 +6,7 @@ use crate::structs::OzpRow;
 use crate::structs::OzpValue;
 use block::SIZE;
 use layout::form::form;
+use layout::reader::edition;
 use layout::reader::offer_count;
 use layout::reader::row_bytes;
 use values::Value;
@@ -44,6 +45,7 @@ fn offer_out(o: Offer) -> OzpRow
         quantity: o.quantity,
         price: value_out(price),
         block: value_out(block),
+        step: o.step,
     }
 }
 
@@ -52,12 +54,12 @@ pub fn row_at(book: &[u8], row: usize) -> OzpRow
     requires { ⌜ HasRow (now book) row ⌝ }
     ensures { λ r. ⌜ r ≡ rowOut (now (book .entry)) row ⌝ }
 {
-    offer_out(offer_in(row_bytes(book, 1, row)))
+    offer_out(offer_in(row_bytes(book, 1, row), edition(book)))
 }
 
-// The parameters as they go out, with the number of rows.
-fn contents_out(p: Parameters, rows: u32) -> OzpContents
-    ensures { λ r. ⌜ r ≡ contentsOut p rows ⌝ }
+// The edition and the parameters as they go out, with the number of rows.
+fn contents_out(edition: u32, p: Parameters, rows: u32) -> OzpContents
+    ensures { λ r. ⌜ r ≡ contentsOut edition p rows ⌝ }
 {
     let cost = p.cost;
     let offset = p.offset;
@@ -75,6 +77,7 @@ fn contents_out(p: Parameters, rows: u32) -> OzpContents
     OzpContents {
         kind: 1,
         rows,
+        edition,
         number: NO_VALUE,
         place: NO_VALUE,
         parameters,
@@ -100,6 +103,7 @@ fn contents_refused(number: u32, place: u32) -> OzpContents
     OzpContents {
         kind: 3,
         rows: NO_VALUE,
+        edition: NO_VALUE,
         number,
         place,
         parameters,
@@ -126,7 +130,11 @@ pub fn contents(book: &[u8], entries: usize) -> OzpContents
     if let Verdict::Refused(number, place) = read_fault(book, entries) {
         return contents_refused(number, place);
     }
-    contents_out(parameters_in(&book[0..SIZE]), offer_count(book))
+    contents_out(
+        edition(book),
+        parameters_in(&book[0..SIZE]),
+        offer_count(book),
+    )
 }
 
 // How many entries are filled: one for each row, and none on a refusal.

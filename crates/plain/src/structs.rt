@@ -66,7 +66,7 @@ pub struct OzpPrice {
     pub place: u32,
 }
 
-// A row of a book.
+// A row of a book; its step is 1 in a book of edition 1.
 #[repr(C)]
 pub struct OzpRow {
     pub stamp: u64,
@@ -75,6 +75,7 @@ pub struct OzpRow {
     pub quantity: u32,
     pub price: OzpValue,
     pub block: OzpValue,
+    pub step: u32,
 }
 
 // What a book says besides its rows.
@@ -82,6 +83,7 @@ pub struct OzpRow {
 pub struct OzpContents {
     pub kind: u32,
     pub rows: u32,
+    pub edition: u32,
     pub number: u32,
     pub place: u32,
     pub parameters: OzpParameters,

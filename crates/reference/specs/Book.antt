@@ -59,7 +59,7 @@ infix 70 _at_
 abbrev pub _at_ : ℕ → ℕ → ℕ × ℕ
 quantity at price = (quantity, price)
 
--- offers of these quantities and prices, stamps and resource numbers ascending
+-- offers of these quantities and prices, stamps and resource numbers ascending, each in one step
 abbrev pub exampleOffers : List (ℕ × ℕ) → Offers
 exampleOffers rows =
     record {
@@ -68,6 +68,7 @@ exampleOffers rows =
       quantity = λ i. getD rows i (0 at 0) .0;
       stamp = λ i. i;
       resource = λ i. suc i;
+      step = λ i. 1;
     }
 
 -- the first n values, in a list

@@ -1,6 +1,7 @@
 -- What a table of flags shows of the rows passed, where each resource number has a flag.
 --
--- In order: no row; a flag more; one row more; a row whose flag is not set; of two flags that are not both set, which.
+-- In order: no row; a flag more; one row more; a row whose flag is not set; of a row's step and two
+-- flags that do not all ask for a test, which does not.
 -- Assumes nothing.
 use mathlib.Core.Path.{_≡_, refl, sym, _∙_}
 use mathlib.Core.Bool.{Bool, true, false, _&&_, true≢false}
@@ -61,7 +62,9 @@ module _ (flagOf resources : ℕ → ℕ) (met : List Bool) where
       let flag : getD met (flagOf (resources n)) false ≡ true = rw same at (h .flag row l) in
       absurd (true≢false (sym flag ∙ rw e at unset)))
 
--- of two flags that are not both set, one or the other is not
-pub by-unset {ℓ} : {X : Type ℓ} (s t : Bool) → s && t ≡ false → (s ≡ false → X) → (t ≡ false → X) → X
-by-unset true t e f g = g e
-by-unset false t e f g = f refl
+-- of a step and two flags that do not all ask for a test, which does not
+pub by-unset {ℓ} : {X : Type ℓ} (first s t : Bool) → (first && s) && t ≡ false
+    → (first ≡ false → X) → (s ≡ false → X) → (t ≡ false → X) → X
+by-unset true true t e f g h = h e
+by-unset true false t e f g h = g refl
+by-unset false s t e f g h = f refl

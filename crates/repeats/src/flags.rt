@@ -1,4 +1,4 @@
-// Fresh rows are passed quickly by a table of flags, of which each resource number has two.
+// Rows that are no repeats are passed quickly by a table of flags, of which each resource number has two.
 //
 // Where one of a number's flags is not set, the number was not met. Where both are, other numbers may have set them: there the
 // earlier rows are looked through.
@@ -9,7 +9,7 @@ ghost use lib.Dec.{eqb};
 ghost use lib.ListN.{length, getD};
 ghost use Rattle.laws.specs.Sum.{every};
 ghost use Rattle.repeats.specs.inner.Flags.{flagOfSum, flagOfProduct};
-ghost use Rattle.repeats.specs.Repeats.{fresh};
+ghost use Rattle.repeats.specs.Repeats.{noRepeat};
 
 // Whether a number stands in none of the first n rows. The loop has no branch, so that it runs in lanes.
 fn absent(resources: &[u32], n: usize, number: u32) -> bool
@@ -42,10 +42,11 @@ fn flag_of_product(number: u32) -> usize
 // Fewer rows than this are looked through sooner than a table of flags is cleared.
 const FEW: usize = 40;
 
-// A row before which every row is fresh: the first that repeats a resource number, or n. Of few rows it says nothing: 0.
-pub fn fresh_rows(resources: &[u32], n: usize) -> usize
-    requires { ⌜ n ≤ length (now resources) ⌝ }
-    ensures { λ r. ⌜ (r ≤ n) × (every (fresh (λ row. getD (now (resources .entry)) row 0)) r ≡ true) ⌝ }
+// A row before which no row is a repeat: the first that is one, or n. Of few rows it says nothing: 0.
+pub fn unrepeated_rows(resources: &[u32], steps: &[u32], n: usize) -> usize
+    requires { ⌜ (n ≤ length (now resources)) × (n ≤ length (now steps)) ⌝ }
+    ensures { λ r. ⌜ (r ≤ n)
+        × (every (noRepeat (λ row. getD (now (resources .entry)) row 0) (λ row. getD (now (steps .entry)) row 0)) r ≡ true) ⌝ }
 {
     if n < FEW {
         return 0;
@@ -55,7 +56,7 @@ pub fn fresh_rows(resources: &[u32], n: usize) -> usize
         let number = resources[row];
         let by_sum = flag_of_sum(number);
         let by_product = flag_of_product(number);
-        if met[by_sum] & met[by_product] {
+        if (steps[row] == 1) & met[by_sum] & met[by_product] {
             if !absent(resources, row, number) {
                 return row;
             }

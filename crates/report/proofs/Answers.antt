@@ -13,7 +13,7 @@ use Rattle.values.specs.declared.Verdict.the-variants.{Passed, Refused}
 use Rattle.values.specs.Contents.{offerAt}
 use Rattle.values.specs.declared.place.Offer.{Offer}
 use Rattle.layout.specs.Form.{offerCount}
-use Rattle.layout.specs.Read.{rowOffer, contentsOf}
+use Rattle.layout.specs.Read.{contentsOf}
 use Rattle.layout.proofs.Contained.{contents-count, contents-offer}
 use Rattle.book.specs.Faults.{firstFault}
 use Rattle.sale.specs.Auction.{total, price, rowCleared, rowCommitted, rowMakeWhole, dailyTotal, yearTotal}

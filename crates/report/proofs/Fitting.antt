@@ -16,6 +16,7 @@ use Rattle.market.specs.declared.price.ClearingPrice.the-variants.{Price, NoPri
 use Rattle.values.specs.Place.{offerOf}
 use Rattle.values.specs.declared.place.Offer.{Offer}
 use Rattle.layout.specs.Blocks.{rowBytes}
+use Rattle.layout.specs.Form.{editionOf}
 use Rattle.layout.specs.Read.{rowOffer}
 use Rattle.settle.specs.inner.Read.{quoted}
 use Rattle.report.specs.Lines.{priceWord, noPriceLine, endedText, lineText, priceText, rowText, rowsText, Fitted}
@@ -77,14 +78,14 @@ module _ {out : List ℕ} {at : ℕ} {after : List ℕ} {end : ℕ} {quote : Cle
   no-price-told e f = rw e f
 
 -- the line of a row of a book, by what was read of the row and paid for it
-pub row-told : {out : List ℕ} {at : ℕ} {after : List ℕ} {end : ℕ} (b part : List ℕ) (row cleared committed paid mills : ℕ)
-    (o : Offer) → part ≡ rowBytes b 1 row → o ≡ offerOf part → paid ≡ mills
+pub row-told : {out : List ℕ} {at : ℕ} {after : List ℕ} {end : ℕ} (b part : List ℕ) (edition row cleared committed paid mills : ℕ)
+    (o : Offer) → part ≡ rowBytes b 1 row → edition ≡ editionOf b → o ≡ offerOf edition part → paid ≡ mills
     → Fitted out at (rowText (o .resource) cleared committed paid) after end
-    → Fitted out at (rowText (rowOffer b 1 row .resource) cleared committed mills) after end
+    → Fitted out at (rowText (rowOffer b (editionOf b) 1 row .resource) cleared committed mills) after end
 unfolding rowOffer
-row-told {out} {at} {after} {end} b part row cleared committed paid mills o e f g fit =
+row-told {out} {at} {after} {end} b part edition row cleared committed paid mills o e d f g fit =
     subst₂ (λ (r m : ℕ). Fitted out at (rowText r cleared committed m) after end)
-    (ap (λ (v : Offer). v .resource) (f ∙ ap offerOf e)) g fit
+    (ap (λ (v : Offer). v .resource) (f ∙ ap₂ offerOf d e)) g fit
 
 -- no rows, and one more
 pub rows-none : {out : List ℕ} {at : ℕ} (line : ℕ → List ℕ) → at ≤ length out → Fitted out at (rowsText line 0) out at

@@ -7,6 +7,7 @@ use crate::lines::put_row;
 use crate::lines::put_word;
 use call::Answer;
 use call::clear;
+use layout::reader::edition;
 use layout::reader::offer_count;
 use layout::reader::row_bytes;
 use market::price::ClearingPrice;
@@ -20,6 +21,7 @@ ghost use Rattle.io.specs.Counts.{Counts};
 ghost use Rattle.values.specs.declared.Verdict.the-variants.{Passed};
 ghost use Rattle.auction.specs.Settlement.{mills};
 ghost use Rattle.settle.specs.inner.Read.{quoted};
+ghost use Rattle.layout.specs.Form.{editionOf};
 ghost use Rattle.layout.specs.Read.{rowOffer};
 ghost use Rattle.layout.specs.inner.Read.{Inside};
 ghost use Rattle.book.specs.Faults.{firstFault};
@@ -39,9 +41,9 @@ fn put_offer(
 ) -> usize
     requires { ⌜ (1 + row / 15) * 512 + 512 ≤ length (now book) ⌝ }
     requires { ⌜ at + 54 ≤ length (now out) ⌝ }
-    ensures { λ r. ⌜ Fitted (now (out .entry)) at (rowText (rowOffer (now (book .entry)) 1 row .resource) cleared committed (mills (quoted price) (committed - cleared))) (now (out .exit)) r × (r ≤ at + 54) ⌝ }
+    ensures { λ r. ⌜ Fitted (now (out .entry)) at (rowText (rowOffer (now (book .entry)) (editionOf (now (book .entry))) 1 row .resource) cleared committed (mills (quoted price) (committed - cleared))) (now (out .exit)) r × (r ≤ at + 54) ⌝ }
 {
-    let o = offer_in(row_bytes(book, 1, row));
+    let o = offer_in(row_bytes(book, 1, row), edition(book));
     put_row(
         out,
         at,

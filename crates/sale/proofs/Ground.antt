@@ -1,5 +1,5 @@
 -- The auction of contents that can be cleared stands on firm ground: its curve never rises, every row offers something, and no
--- two rows have one resource number.
+-- two rows have one resource number and one step.
 -- Assumes nothing.
 use Rattle.auction.specs.Offers.{Falling, Proper}
 use Rattle.values.specs.Contents.{Contents}

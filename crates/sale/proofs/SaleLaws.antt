@@ -1,7 +1,7 @@
 -- What a sale over columns says: the total and the price by offers of price and quantity alone, and the sale of contents.
 --
--- In order: the level at which a total stops, by its own total; the total and the price look at no stamp and no resource
--- number; a sale over the columns of contents is theirs.
+-- In order: the level at which a total stops, by its own total; the total and the price look at no stamp, no resource
+-- number and no step; a sale over the columns of contents is theirs.
 -- Assumes nothing.
 use mathlib.Core.Path.{_≡_, refl, ap, sym, subst, _∙_}
 use mathlib.Core.List.{List}
@@ -33,12 +33,12 @@ use Rattle.sale.proofs.Sales.{columns-offers, shared-cleared}
 pub stops-own : (o : Offers) (x : ℕ) (l : Level) → StopsAt o x l → StopsAt o (l .total) l
 stops-own o x l s = subst (λ (y : ℕ). StopsAt o y l) (sym (s .total)) s
 
-module _ (prices quantities stamps resources : List ℕ) (n : ℕ) where
+module _ (prices quantities stamps resources steps : List ℕ) (n : ℕ) where
   abbrev few : Offers
   few = listed prices quantities n
 
   abbrev all : Offers
-  all = rowsOf prices quantities stamps resources n
+  all = rowsOf prices quantities stamps resources steps n
 
   total-listed : (c : Curve) → clearedTotal (demandOf c) few ≡ clearedTotal (demandOf c) all
   unfolding clearedTotal supply
@@ -69,7 +69,7 @@ pub record SoldAs (c : Contents) (before : List ℕ) (s : Sale) (after : List �
 pub sold-contents : (c : Contents) (p : Parameters) (n : ℕ) (v : Columns) → Stands c p n v
     → (curve : Curve) → curve ≡ regionCurve p
     → (before after : List ℕ) (s : Sale) → n ≤ length before
-    → SoldColumns curve (rowsOf (v .prices) (v .quantities) (v .stamps) (v .resources) n) before s after
+    → SoldColumns curve (rowsOf (v .prices) (v .quantities) (v .stamps) (v .resources) (v .steps) n) before s after
     → SoldAs c before s after
 unfolding total price
 sold-contents c p n v stands curve f before after s long sold =

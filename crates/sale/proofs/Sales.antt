@@ -16,7 +16,7 @@ use Rattle.values.specs.declared.head.Parameters.{Parameters}
 use Rattle.market.specs.inner.Rows.{RowLists}
 use Rattle.shares.specs.inner.Out.{SharedOut, Ordered}
 use Rattle.shares.proofs.Outcome.{shared-filled}
-use Rattle.columns.specs.inner.Column.{rowPrice, rowQuantity, rowLeast, rowResource, rowStamp, rowsOf}
+use Rattle.columns.specs.inner.Column.{rowPrice, rowQuantity, rowLeast, rowResource, rowStamp, rowStep, rowsOf}
 use Rattle.columns.specs.inner.Columns.{Columns}
 use Rattle.columns.proofs.Offers.{column-long, column-row, listed-offers}
 use Rattle.sale.specs.Auction.{offersOf, total, rowCleared}
@@ -29,10 +29,10 @@ module _ (c : Contents) (p : Parameters) (n : ℕ) (v : Columns) (s : Stands c p
   there i l = rw (s .count) at l
 
   -- the columns are the offers of the contents
-  pub columns-offers : rowsOf (v .prices) (v .quantities) (v .stamps) (v .resources) n ≡ offersOf (c .offers)
+  pub columns-offers : rowsOf (v .prices) (v .quantities) (v .stamps) (v .resources) (v .steps) n ≡ offersOf (c .offers)
   unfolding offersOf
   columns-offers =
-      ap (rowsOf (v .prices) (v .quantities) (v .stamps) (v .resources)) (s .count) ∙ listed-offers (c .offers) v (s .listed)
+      ap (rowsOf (v .prices) (v .quantities) (v .stamps) (v .resources) (v .steps)) (s .count) ∙ listed-offers (c .offers) v (s .listed)
 
   pub columns-rows : RowLists (v .prices) (v .quantities) n
   columns-rows =
@@ -56,12 +56,13 @@ module _ (c : Contents) (p : Parameters) (n : ℕ) (v : Columns) (s : Stands c p
             );
       }
 
-  pub columns-ordered : Ordered (v .quantities) (v .stamps) (v .resources) n
+  pub columns-ordered : Ordered (v .quantities) (v .stamps) (v .resources) (v .steps) n
   columns-ordered =
       let l = s .listed in
       record {
         stamps-long = omega (arith, column-long (rowStamp (c .offers)) (l .read .stamp) (l .enough), s .count);
         resources-long = omega (arith, column-long (rowResource (c .offers)) (l .read .resource) (l .enough), s .count);
+        steps-long = omega (arith, column-long (rowStep (c .offers)) (l .read .step) (l .enough), s .count);
         positive = λ i h.
             omega (
               arith,
@@ -80,7 +81,7 @@ module _ (c : Contents) (p : Parameters) (n : ℕ) (v : Columns) (s : Stands c p
 
   -- the amounts shared out over the columns are what the rows clear
   pub shared-cleared : (x : ℕ) (before after : List ℕ) → n ≤ length before → x ≡ total c
-      → SharedOut (rowsOf (v .prices) (v .quantities) (v .stamps) (v .resources) n) x before after
+      → SharedOut (rowsOf (v .prices) (v .quantities) (v .stamps) (v .resources) (v .steps) n) x before after
       → after ≡ clearedList c before
   unfolding clearedList rowCleared offersOf
   shared-cleared x before after long e shared =

@@ -28,6 +28,7 @@ offersOf offers =
       quantity = λ row. offerAt offers row .quantity;
       stamp = λ row. offerAt offers row .stamp;
       resource = λ row. offerAt offers row .resource;
+      step = λ row. offerAt offers row .step;
     }
 
 module _ (c : Contents) where

@@ -21,13 +21,14 @@ pub fn clearing(
     leasts: &[u32],
     resources: &[u32],
     stamps: &[u64],
+    steps: &[u32],
     cleared: &mut [u32],
     committed: &mut [u32],
 ) -> Clearing
-    requires { ⌜ SomeStand p n (columnsOf (now prices) (now quantities) (now leasts) (now resources) (now stamps)) ⌝ }
+    requires { ⌜ SomeStand p n (columnsOf (now prices) (now quantities) (now leasts) (now resources) (now stamps) (now steps)) ⌝ }
     requires { ⌜ (n ≤ length (now cleared)) × (n ≤ length (now committed)) ⌝ }
     ensures { λ r. ⌜ ClearsColumns p n
-        (columnsOf (now (prices .entry)) (now (quantities .entry)) (now (leasts .entry)) (now (resources .entry)) (now (stamps .entry)))
+        (columnsOf (now (prices .entry)) (now (quantities .entry)) (now (leasts .entry)) (now (resources .entry)) (now (stamps .entry)) (now (steps .entry)))
         (now (cleared .entry)) (now (committed .entry)) r (now (cleared .exit)) (now (committed .exit)) ⌝ }
 {
     let sale = sell(
@@ -36,6 +37,7 @@ pub fn clearing(
         quantities,
         resources,
         stamps,
+        steps,
         n,
         cleared,
     );

@@ -25,15 +25,25 @@ pub(crate) fn sell(
     quantities: &[u32],
     resources: &[u32],
     stamps: &[u64],
+    steps: &[u32],
     n: usize,
     amounts: &mut [u32],
 ) -> Sale
     requires { ⌜ Shaped c × RowLists (now prices) (now quantities) n ⌝ }
-    requires { ⌜ Ordered (now quantities) (now stamps) (now resources) n × (n ≤ length (now amounts)) ⌝ }
-    ensures { λ r. ⌜ SoldColumns c (rowsOf (now (prices .entry)) (now (quantities .entry)) (now (stamps .entry)) (now (resources .entry)) n) (now (amounts .entry)) r (now (amounts .exit)) ⌝ }
+    requires { ⌜ Ordered (now quantities) (now stamps) (now resources) (now steps) n × (n ≤ length (now amounts)) ⌝ }
+    ensures { λ r. ⌜ SoldColumns c (rowsOf (now (prices .entry)) (now (quantities .entry)) (now (stamps .entry)) (now (resources .entry)) (now (steps .entry)) n) (now (amounts .entry)) r (now (amounts .exit)) ⌝ }
 {
     let level = cleared_level(c, prices, quantities, n);
-    share_out(prices, quantities, resources, stamps, n, level, amounts);
+    share_out(
+        prices,
+        quantities,
+        resources,
+        stamps,
+        steps,
+        n,
+        level,
+        amounts,
+    );
     Sale {
         total: level.total,
         price: clearing_price(c, level),

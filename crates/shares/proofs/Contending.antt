@@ -25,7 +25,7 @@ use Rattle.contest.specs.inner.Contest.{wins, contenders, inOrder}
 use Rattle.contest.proofs.Winning.{wins-contenders}
 use Rattle.parts.specs.inner.Parts.{keyOf, rowKey}
 use Rattle.shares.specs.inner.Halves.{highHalf, lowHalf}
-use Rattle.shares.specs.inner.Steps.{Stopped}
+use Rattle.shares.specs.inner.Stages.{Stopped}
 use Rattle.parts.proofs.RowParts.{key-at}
 use Rattle.shares.proofs.Sharing.{stop-some, spares-away, cleared-down}
 
@@ -49,9 +49,9 @@ standing-test : (t : Bool) → eqb (cond t 1 0) 1 ≡ t
 standing-test true = refl
 standing-test false = refl
 
-module _ (prices quantities stamps resources : List ℕ) (n : ℕ) (l : Level) where
+module _ (prices quantities stamps resources steps : List ℕ) (n : ℕ) (l : Level) where
   abbrev rows : Offers
-  rows = rowsOf prices quantities stamps resources n
+  rows = rowsOf prices quantities stamps resources steps n
 
   abbrev atStop : ℕ → Bool
   atStop i = eqb (getD prices i 0) (l .price)
@@ -60,13 +60,13 @@ module _ (prices quantities stamps resources : List ℕ) (n : ℕ) (l : Level) w
       (halves : (i : ℕ) → i < n → (getD highs i 0 ≡ highHalf stamps i) × (getD lows i 0 ≡ lowHalf stamps i))
       (keys : List ℕ) (keyed : (i : ℕ) → i < n → getD keys i 0 ≡ rowKey l prices quantities i) where
     abbrev keyOrder : ℕ → ℕ → Bool
-    keyOrder = inOrder keys highs lows resources
+    keyOrder = inOrder keys highs lows resources steps
 
     abbrev key : ℕ → ℕ
     key i = getD keys i 0
 
     abbrev byResource : ℕ → ℕ → Bool
-    byResource = byKey (rows .resource)
+    byResource = thenBy (rows .resource) (byKey (rows .step))
 
     key-left : (i : ℕ) → i < n → atStop i ≡ true → key i + remainder rows (l .total) i ≡ l .sum
     key-left i k at = rw (keyed i k) (key-remainder rows l s i k (eqb-true _ _ at))

@@ -20,12 +20,12 @@ shared-alone o x before after other a b =
     ext-getD 0 after other (a .length-kept ∙ sym (b .length-kept))
     (λ i h. by-order (o .count) i (λ l. a .past i l ∙ sym (b .past i l)) (λ l. a .row i l ∙ sym (b .row i l)))
 
-pub share-out-decided : (κs : Lfts 5) (prices quantities resources stamps : RefT (List ℕ)) (n : ℕ) (level : Level)
+pub share-out-decided : (κs : Lfts 6) (prices quantities resources stamps steps : RefT (List ℕ)) (n : ℕ) (level : Level)
     (out after other : RefT (List ℕ))
-    → share-out.Post κs (prices, (quantities, (resources, (stamps, (n, (level, (out, tt))))))) tt
-    (prices, (quantities, (resources, (stamps, (n, (level, (after, tt)))))))
-    → share-out.Post κs (prices, (quantities, (resources, (stamps, (n, (level, (out, tt))))))) tt
-    (prices, (quantities, (resources, (stamps, (n, (level, (other, tt)))))))
+    → share-out.Post κs (prices, (quantities, (resources, (stamps, (steps, (n, (level, (out, tt)))))))) tt
+    (prices, (quantities, (resources, (stamps, (steps, (n, (level, (after, tt))))))))
+    → share-out.Post κs (prices, (quantities, (resources, (stamps, (steps, (n, (level, (out, tt)))))))) tt
+    (prices, (quantities, (resources, (stamps, (steps, (n, (level, (other, tt))))))))
     → now after ≡ now other
-share-out-decided κs prices quantities resources stamps n level out after other e f =
+share-out-decided κs prices quantities resources stamps steps n level out after other e f =
     shared-alone _ (level .total) (now out) (now after) (now other) e f

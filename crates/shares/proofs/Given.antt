@@ -1,7 +1,7 @@
--- What `share_out` is given, as its steps want it.
+-- What `share_out` is given, as its stages want it.
 --
--- In order: a level holds its total; a level's sum is in a book's range; the level at which a total stops looks at no stamp
--- and no resource; what the steps know of the rows and the level.
+-- In order: a level holds its total; a level's sum is in a book's range; the level at which a total stops looks at no stamp,
+-- no resource and no step; what the stages know of the rows and the level.
 -- Assumes nothing.
 use mathlib.Core.Path.{sym, subst}
 use mathlib.Core.List.{List}
@@ -22,7 +22,7 @@ use Rattle.market.specs.Stop.{stopLevel}
 use Rattle.market.specs.inner.Stop.{StopsAt}
 use Rattle.shares.specs.inner.Out.{Ordered}
 use Rattle.parts.specs.inner.Divides.{DividesRows}
-use Rattle.shares.specs.inner.Steps.{Stopped}
+use Rattle.shares.specs.inner.Stages.{Stopped}
 use Rattle.shares.proofs.Sharing.{stop-some}
 
 -- the level at which a total stops holds the total
@@ -42,18 +42,18 @@ level-low prices quantities n p r =
       r .few,
     )
 
-module _ (prices quantities stamps resources : List ℕ) (n : ℕ) (l : Level) where
+module _ (prices quantities stamps resources steps : List ℕ) (n : ℕ) (l : Level) where
   abbrev rows : Offers
-  rows = rowsOf prices quantities stamps resources n
+  rows = rowsOf prices quantities stamps resources steps n
 
   -- a total of rows stops where a total of their prices and quantities does
   stops-rows : StopsAt (listed prices quantities n) (l .total) l → StopsAt rows (l .total) l
   unfolding stopLevel levelAmount supply supplyBelow levelSum
   stops-rows s = record { total = s .total; price = s .price; amount = s .amount; sum = s .sum; reach = s .reach }
 
-  module _ (r : RowLists prices quantities n) (o : Ordered quantities stamps resources n)
+  module _ (r : RowLists prices quantities n) (o : Ordered quantities stamps resources steps n)
       (s : StopsAt (listed prices quantities n) (l .total) l) where
-    -- the rows, with their stamps and resources, are offers of which a total stops at the level
+    -- the rows, with their stamps, resources and steps, are offers of which a total stops at the level
     pub rows-stopped : Stopped rows l
     rows-stopped = record { stops = stops-rows s; cheap = r .cheap; positive = o .positive }
 

@@ -20,7 +20,7 @@ use Rattle.market.specs.declared.level.Level.{Level}
 use Rattle.columns.specs.inner.Column.{rowsOf}
 use Rattle.market.specs.inner.Rows.{RowLists, listed}
 use Rattle.parts.specs.inner.Divides.{DividesRows}
-use Rattle.shares.specs.inner.Steps.{Stopped, HoldsParts}
+use Rattle.shares.specs.inner.Stages.{Stopped, HoldsParts}
 use Rattle.parts.proofs.RowParts.{part-most}
 use Rattle.shares.proofs.Sharing.{downs, part-share}
 
@@ -53,9 +53,9 @@ parts-rows prices quantities n l d shares h =
       cheap = d .rows .cheap;
     }
 
-module _ (prices quantities stamps resources : List ℕ) (n : ℕ) (l : Level) where
+module _ (prices quantities stamps resources steps : List ℕ) (n : ℕ) (l : Level) where
   abbrev rows : Offers
-  rows = rowsOf prices quantities stamps resources n
+  rows = rowsOf prices quantities stamps resources steps n
 
   module _ (s : Stopped rows l) (shares : List ℕ) (h : HoldsParts l prices quantities n shares) where
     held-downs : levelSum (listed prices shares n) (l .price) ≡ downs rows (l .total) (l .price)

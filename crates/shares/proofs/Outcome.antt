@@ -14,7 +14,7 @@ use Rattle.auction.specs.Shares.{spareTenths, cleared}
 use Rattle.market.specs.declared.level.Level.{Level}
 use Rattle.shares.specs.inner.Out.{SharedOut}
 use Rattle.parts.specs.inner.Parts.{partOf}
-use Rattle.shares.specs.inner.Steps.{Stopped}
+use Rattle.shares.specs.inner.Stages.{Stopped}
 use Rattle.shares.proofs.Sharing.{part-cleared}
 
 -- where nothing is spare at the stop, parts that fill a list are shared out

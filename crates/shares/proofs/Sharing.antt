@@ -18,7 +18,7 @@ use Rattle.auction.specs.Offers.{Offers, levelSum}
 use Rattle.auction.specs.Shares.{levelAmount, weighted, shareDown, spareTenths, rank, cleared}
 use Rattle.market.specs.declared.level.Level.{Level}
 use Rattle.parts.specs.inner.Parts.{partOf}
-use Rattle.shares.specs.inner.Steps.{Stopped}
+use Rattle.shares.specs.inner.Stages.{Stopped}
 use Rattle.parts.proofs.RowParts.{part-under, part-over, part-at}
 use Rattle.shares.proofs.Stopping.{level-under-stop, level-over-stop}
 

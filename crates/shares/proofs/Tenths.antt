@@ -17,7 +17,7 @@ use Rattle.contest.specs.inner.Contest.{wins, contenders, inOrder}
 use Rattle.contest.specs.inner.Award.{Awarded}
 use Rattle.parts.specs.inner.Parts.{rowKey, rowStanding}
 use Rattle.shares.specs.inner.Halves.{highHalf, lowHalf}
-use Rattle.shares.specs.inner.Steps.{SparesDue, Adds}
+use Rattle.shares.specs.inner.Stages.{SparesDue, Adds}
 use Rattle.shares.proofs.Sharing.{part-share}
 use Rattle.shares.proofs.Holding.{parts-rows}
 use Rattle.shares.proofs.Contending.{cleared-won}
@@ -30,12 +30,12 @@ bit-most false = zero-le
 pub standing-most : (t : Bool) (v : ℕ) → v ≡ cond t 1 0 → v ≤ 1
 standing-most t v e = rw e (bit-most t)
 
-module _ (prices quantities stamps resources : List ℕ) (n : ℕ) (l : Level) where
+module _ (prices quantities stamps resources steps : List ℕ) (n : ℕ) (l : Level) where
   abbrev rows : Offers
-  rows = rowsOf prices quantities stamps resources n
+  rows = rowsOf prices quantities stamps resources steps n
 
-  module _ (spare : ℕ) (out : List ℕ) (p : SparesDue prices quantities stamps resources n l spare out)
-      (highs lows keys standings tenths : List ℕ) (won : Awarded keys highs lows resources standings n spare tenths) where
+  module _ (spare : ℕ) (out : List ℕ) (p : SparesDue prices quantities stamps resources steps n l spare out)
+      (highs lows keys standings tenths : List ℕ) (won : Awarded keys highs lows resources steps standings n spare tenths) where
     -- a row's part and the tenth that it may have won fit
     pub won-adds : n ≤ length tenths → Adds tenths n out
     won-adds h =
@@ -47,7 +47,7 @@ module _ (prices quantities stamps resources : List ℕ) (n : ℕ) (l : Level) w
                 arith,
                 parts-rows prices quantities n l (p .divides) out (p .holds) .small i k,
                 won .within i k,
-                bit-most (wins (contenders standings) (inOrder keys highs lows resources) n spare i),
+                bit-most (wins (contenders standings) (inOrder keys highs lows resources steps) n spare i),
               );
         }
 
@@ -63,4 +63,4 @@ module _ (prices quantities stamps resources : List ℕ) (n : ℕ) (l : Level) w
         ∙ filled-ext _ _ n out
         (λ i h.
         ap₂ _+_ (p .holds .row i h ∙ part-share rows l s i h) (won .within i h)
-        ∙ cleared-won prices quantities stamps resources n l s highs lows halves keys keyed standings spare standing (p .tenths) i h)
+        ∙ cleared-won prices quantities stamps resources steps n l s highs lows halves keys keyed standings spare standing (p .tenths) i h)

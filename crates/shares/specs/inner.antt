@@ -1,3 +1,3 @@
 pub mod Out
-pub mod Steps
+pub mod Stages
 pub mod Halves

@@ -29,18 +29,29 @@ pub fn share_out(
     quantities: &[u32],
     resources: &[u32],
     stamps: &[u64],
+    steps: &[u32],
     n: usize,
     level: Level,
     out: &mut [u32],
 )
-    requires { ⌜ RowLists (now prices) (now quantities) n × Ordered (now quantities) (now stamps) (now resources) n ⌝ }
+    requires { ⌜ RowLists (now prices) (now quantities) n × Ordered (now quantities) (now stamps) (now resources) (now steps) n ⌝ }
     requires { ⌜ n ≤ length (now out) ⌝ }
     requires { ⌜ StopsAt (listed (now prices) (now quantities) n) (level .total) level ⌝ }
-    ensures { λ _. ⌜ SharedOut (rowsOf (now (prices .entry)) (now (quantities .entry)) (now (stamps .entry)) (now (resources .entry)) n) (level .total) (now (out .entry)) (now (out .exit)) ⌝ }
+    ensures { λ _. ⌜ SharedOut (rowsOf (now (prices .entry)) (now (quantities .entry)) (now (stamps .entry)) (now (resources .entry)) (now (steps .entry)) n) (level .total) (now (out .entry)) (now (out .exit)) ⌝ }
 {
     parts(prices, quantities, n, level, out);
     let spare = level.amount - held_at(prices, out, n, level.price);
     if 0 < spare {
-        give(prices, quantities, resources, stamps, n, level, spare, out);
+        give(
+            prices,
+            quantities,
+            resources,
+            stamps,
+            steps,
+            n,
+            level,
+            spare,
+            out,
+        );
     }
 }

@@ -13,7 +13,7 @@ ghost use Rattle.columns.specs.inner.Column.{rowsOf};
 ghost use Rattle.shares.specs.inner.Halves.{highHalf, lowHalf};
 ghost use Rattle.parts.specs.inner.Parts.{partOf, keyOf, rowKey, rowStanding};
 ghost use Rattle.parts.specs.inner.Divides.{Divides, DividesRows};
-ghost use Rattle.shares.specs.inner.Steps.{HoldsParts, SparesDue, Adds};
+ghost use Rattle.shares.specs.inner.Stages.{HoldsParts, SparesDue, Adds};
 
 // A row's key in the order of spare tenths: the lower the more rounding down left, 0 away from the level.
 fn key(price: u32, quantity: u32, share: u32, level: Level) -> u32
@@ -102,13 +102,14 @@ pub fn give(
     quantities: &[u32],
     resources: &[u32],
     stamps: &[u64],
+    steps: &[u32],
     n: usize,
     level: Level,
     spare: u32,
     out: &mut [u32],
 )
-    requires { ⌜ SparesDue (now prices) (now quantities) (now stamps) (now resources) n level spare (now out) ⌝ }
-    ensures { λ _. ⌜ now (out .exit) ≡ filled (cleared (rowsOf (now (prices .entry)) (now (quantities .entry)) (now (stamps .entry)) (now (resources .entry)) n) (level .total)) n (now (out .entry)) ⌝ }
+    requires { ⌜ SparesDue (now prices) (now quantities) (now stamps) (now resources) (now steps) n level spare (now out) ⌝ }
+    ensures { λ _. ⌜ now (out .exit) ≡ filled (cleared (rowsOf (now (prices .entry)) (now (quantities .entry)) (now (stamps .entry)) (now (resources .entry)) (now (steps .entry)) n) (level .total)) n (now (out .entry)) ⌝ }
 {
     let mut highs = [0u32; 600];
     let mut lows = [0u32; 600];
@@ -116,6 +117,15 @@ pub fn give(
     let mut standings = [0u32; 600];
     halve(stamps, n, &mut highs, &mut lows);
     line_up(prices, quantities, out, n, level, &mut keys, &mut standings);
-    award(&keys, &highs, &lows, resources, &mut standings, n, spare);
+    award(
+        &keys,
+        &highs,
+        &lows,
+        resources,
+        steps,
+        &mut standings,
+        n,
+        spare,
+    );
     add(&standings, n, out);
 }

@@ -12,7 +12,7 @@ use denote.Ref.{RefT, now}
 use Rattle.laws.proofs.Answers.{same-answer}
 use Rattle.block.specs.Bytes.{u32At}
 use Rattle.values.specs.Values.{valueOf}
-use Rattle.values.specs.Head.{parametersOf, offersIn}
+use Rattle.values.specs.Head.{parametersOf, editionIn, offersIn}
 use Rattle.values.specs.Place.{offerOf}
 use Rattle.values.specs.declared.Value.{Value}
 use Rattle.values.specs.declared.head.Parameters.{Parameters}
@@ -23,6 +23,7 @@ use Rattle.values.proofs.value_at.Reads as value-at
 use Rattle.values.proofs.number_held.Reads as number-held
 use Rattle.values.proofs.least_of.Reads as least-of
 use Rattle.values.proofs.head.parameters_in.Reads as parameters-in
+use Rattle.values.proofs.head.edition_in.Reads as edition-in
 use Rattle.values.proofs.head.offers_in.Reads as offers-in
 use Rattle.values.proofs.place.offer_in.Reads as offer-in
 
@@ -54,12 +55,18 @@ module _ (κs : Lfts 1) (part other : RefT (List ℕ)) (same : now part ≡ now 
       → parameters-in.Post κs (part, tt) r (part, tt) → parameters-in.Post κs (other, tt) s (other, tt) → r ≡ s
   parameters-in-decided r s = same-answer parametersOf same
 
+  -- the edition, by the contract of `edition_in`
+  pub edition-in-decided : (r s : ℕ)
+      → edition-in.Post κs (part, tt) r (part, tt) → edition-in.Post κs (other, tt) s (other, tt) → r ≡ s
+  edition-in-decided r s e f = same-answer editionIn same (e .0) (f .0)
+
   -- the number of offers, by the contract of `offers_in`
   pub offers-in-decided : (r s : ℕ)
       → offers-in.Post κs (part, tt) r (part, tt) → offers-in.Post κs (other, tt) s (other, tt) → r ≡ s
   offers-in-decided r s e f = same-answer offersIn same (e .0) (f .0)
 
   -- the offer, by the contract of `offer_in`
-  pub offer-in-decided : (r s : Offer)
-      → offer-in.Post κs (part, tt) r (part, tt) → offer-in.Post κs (other, tt) s (other, tt) → r ≡ s
-  offer-in-decided r s = same-answer offerOf same
+  pub offer-in-decided : (edition : ℕ) (r s : Offer)
+      → offer-in.Post κs (part, (edition, tt)) r (part, (edition, tt)) → offer-in.Post κs (other, (edition, tt)) s (other, (edition, tt))
+      → r ≡ s
+  offer-in-decided edition r s = same-answer (offerOf edition) same

@@ -1,4 +1,4 @@
--- Block 0: 6-7 delivery year; 8-11 C; 12-15 E; 16-19 F; 20-23 R; 24-25 number of offers; 26 marks, of which bits 0 to 4
+-- Block 0: 4-5 edition; 6-7 delivery year; 8-11 C; 12-15 E; 16-19 F; 20-23 R; 24-25 number of offers; 26 marks, of which bits 0 to 4
 -- say that C, E, F, R and the margin are given; 28-31 the reserve margin.
 -- Assumes nothing.
 use Prim.Native.Nat.{ℕ}
@@ -20,6 +20,10 @@ parametersOf s =
       requirement = value 3 20;
       margin = value 4 28;
     }
+
+-- the edition that a block 0 states
+unfoldable pub editionIn : List ℕ → ℕ
+editionIn s = u16At s 4
 
 -- the number of offers that a block 0 states
 unfoldable pub offersIn : List ℕ → ℕ

@@ -37,13 +37,17 @@ noPrice row = Refused 6 row
 abbrev pub offerOutOfRange : ℕ → Verdict
 offerOutOfRange row = Refused 7 row
 
--- 8: a resource number stands in an earlier row; the row
+-- 8: the resource number of a row with step 1 stands in an earlier row; the row
 abbrev pub repeatedResource : ℕ → Verdict
 repeatedResource row = Refused 8 row
 
 -- 9: a result buffer has fewer entries than offers; 1 cleared, 2 committed
 abbrev pub shortBuffer : ℕ → Verdict
 shortBuffer buffer = Refused 9 buffer
+
+-- 10: a row past step 1 breaks the rules of steps; the row
+abbrev pub brokenSteps : ℕ → Verdict
+brokenSteps row = Refused 10 row
 
 -- 19: more than 600 rows are to be written; place 0
 abbrev pub tooManyRows : Verdict

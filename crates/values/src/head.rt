@@ -5,7 +5,7 @@ use block::bytes::u16_at;
 ghost use mathlib.Core.Path.{_≡_};
 ghost use Prim.Native.Nat.{_≤_, _<_};
 ghost use lib.ListN.{length};
-ghost use Rattle.values.specs.Head.{parametersOf, offersIn};
+ghost use Rattle.values.specs.Head.{parametersOf, editionIn, offersIn};
 
 // The parameters of a book, each but the year given or missing.
 pub struct Parameters {
@@ -36,6 +36,14 @@ pub fn parameters_in(s: &[u8]) -> Parameters
         requirement: value_at(s, 20, marks, 8),
         margin: value_at(s, 28, marks, 16),
     }
+}
+
+// The edition that a block 0 states.
+pub fn edition_in(s: &[u8]) -> u32
+    requires { ⌜ 512 ≤ length (now s) ⌝ }
+    ensures { λ r. ⌜ (r ≡ editionIn (now (s .entry))) × (r < 65536) ⌝ }
+{
+    u16_at(s, 4)
 }
 
 // The number of offers that a block 0 states.

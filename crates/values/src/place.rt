@@ -6,7 +6,7 @@ use block::bytes::u64_at;
 ghost use mathlib.Core.Path.{_≡_};
 ghost use Prim.Native.Nat.{_≤_};
 ghost use lib.ListN.{length};
-ghost use Rattle.values.specs.Place.{offerOf};
+ghost use Rattle.values.specs.Place.{stepOf, offerOf};
 
 // The offer of a row.
 pub struct Offer {
@@ -19,14 +19,24 @@ pub struct Offer {
     // the minimum block, in tenths of a megawatt; where it is missing the offer is flexible
     pub block: Value,
     pub stamp: u64,
+    // from 1 to 10: which of its resource's steps the offer is
+    pub step: u32,
 }
 
-// The offer that a place of 32 bytes holds.
-pub fn offer_in(s: &[u8]) -> Offer
+// The step that a place's byte says: 1 throughout in edition 1.
+fn step_of(edition: u32, number: u8) -> u32
+    ensures { λ r. ⌜ r ≡ stepOf edition number ⌝ }
+{
+    if edition == 1 { 1 } else { number as u32 }
+}
+
+// The offer that a place of 32 bytes holds, in a book of this edition.
+pub fn offer_in(s: &[u8], edition: u32) -> Offer
     requires { ⌜ 32 ≤ length (now s) ⌝ }
-    ensures { λ r. ⌜ r ≡ offerOf (now (s .entry)) ⌝ }
+    ensures { λ r. ⌜ r ≡ offerOf edition (now (s .entry)) ⌝ }
 {
     let marks = s[28];
+    let number = s[29];
     Offer {
         resource: u32_at(s, 0),
         seller: u32_at(s, 4),
@@ -34,5 +44,6 @@ pub fn offer_in(s: &[u8]) -> Offer
         quantity: u32_at(s, 12),
         block: value_at(s, 16, marks, 2),
         stamp: u64_at(s, 20),
+        step: step_of(edition, number),
     }
 }

@@ -1,6 +1,6 @@
 -- What block 0 states, and the offers that can be read; of a book refused by its form neither.
 --
--- In order: the head and the rows by the fault of the form; a row that can be read stands in a book of good form, its block lies
+-- In order: the edition, the head and the rows by the fault of the form; a row that can be read stands in a book of good form, its block lies
 -- within the book, and what its own bytes hold is its offer; the answer for a row.
 -- Assumes nothing.
 use mathlib.Core.Path.{_≡_, refl, ap, ap₂, sym, _∙_}
@@ -17,17 +17,23 @@ use Rattle.values.specs.declared.Verdict.the-variants.{Passed, Refused}
 use Rattle.values.specs.declared.head.Parameters.{Parameters}
 use Rattle.values.specs.declared.place.Offer.{Offer}
 use Rattle.layout.specs.Blocks.{rowBytes}
-use Rattle.layout.specs.Form.{formFault, offerCount}
+use Rattle.layout.specs.Form.{formFault, editionOf, offerCount}
 use Rattle.layout.specs.Read.{contentsOf}
 use Rattle.layout.proofs.Passing.{form-passed-row}
 use Rattle.layout.proofs.Contained.{offer-of-row, contents-offers, contents-count}
-use Rattle.workings.specs.Read.{headBy, offersBy, rowOf}
+use Rattle.workings.specs.Read.{editionBy, headBy, offersBy, rowOf}
 use Rattle.workings.specs.declared.read.Head.the-variants.{Stated, Unread as Head·Unread}
 use Rattle.workings.specs.declared.read.RowOffer.the-variants.{Offered, Unread}
 
 -- ---- by the fault of the form
 
 module _ (v : Verdict) (c : Contents) where
+  pub edition-unread : (number place : ℕ) → v ≡ Refused number place → 0 ≡ editionBy v c
+  edition-unread number place e = rw e
+
+  pub edition-read : (n : ℕ) → v ≡ Passed → n ≡ c .edition → n ≡ editionBy v c
+  edition-read n e f = rw e f
+
   pub head-unread : (number place : ℕ) → v ≡ Refused number place → Head·Unread ≡ headBy v c
   head-unread number place e = rw e
 
@@ -59,10 +65,10 @@ module _ (b : List ℕ) (row : ℕ) (there : row < length (offersBy (formFault b
   pub there-inside : (1 + row / 15) * 512 + 512 ≤ length b
   there-inside = form-passed-row b formed row stated
 
-  pub there-offer : {part : List ℕ} {o : Offer} → part ≡ rowBytes b 1 row → o ≡ offerOf part
+  pub there-offer : {edition : ℕ} {part : List ℕ} {o : Offer} → edition ≡ editionOf b → part ≡ rowBytes b 1 row → o ≡ offerOf edition part
       → o ≡ offerAt (offersBy (formFault b) (contentsOf b)) row
-  there-offer e f =
-      offer-of-row b 1 (offerCount b) row stated e f
+  there-offer {part = part} d e f =
+      offer-of-row b (editionOf b) 1 (offerCount b) row stated e (f ∙ ap (λ (n : ℕ). offerOf n part) d)
       ∙ ap (λ (offers : List Offer). offerAt offers row) (contents-offers b)
       ∙ sym (ap (λ (v : Verdict). offerAt (offersBy v (contentsOf b)) row) formed)
 

@@ -1,4 +1,4 @@
--- The workings of a book are those of its columns, which look at no stamp and no resource number.
+-- The workings of a book are those of its columns, which look at no stamp, no resource number and no step.
 --
 -- In order: the answer by the book's first fault, which what comes before the rows decides, and then the rows; the workings put
 -- together; over the columns of contents they are those of the contents.
@@ -18,7 +18,7 @@ use Rattle.values.specs.declared.head.Parameters.{Parameters}
 use Rattle.values.proofs.Firsts.{andThen-next, andThen-refused}
 use Rattle.limits.specs.Offers.{rowsFault}
 use Rattle.layout.specs.Read.{rowOffers}
-use Rattle.layout.proofs.Contained.{length-rowOffers, contents-count}
+use Rattle.layout.proofs.Contained.{length-rowOffers, contents-edition, contents-count}
 use Rattle.curve.specs.Price.{demandOf}
 use Rattle.curve.specs.declared.Curve.{Curve}
 use Rattle.market.specs.inner.Rows.{listed}
@@ -55,14 +55,14 @@ answer-before b w number place e =
     answer-refused (firstFault b) w number place (first-before b ∙ andThen-refused (beforeRows b) _ number place e)
 
 -- where it passed, the rows decide
-pub first-rows : (b : List ℕ) (p : Parameters) (n : ℕ) (found : Verdict) → Opened b p n
-    → found ≡ rowsFault true (offerAt (rowOffers b 1 n)) (length (rowOffers b 1 n)) → firstFault b ≡ found
-first-rows b p n found o e =
+pub first-rows : (b : List ℕ) (edition : ℕ) (p : Parameters) (n : ℕ) (found : Verdict) → Opened b edition p n
+    → found ≡ rowsFault true edition (offerAt (rowOffers b edition 1 n)) (length (rowOffers b edition 1 n)) → firstFault b ≡ found
+first-rows b edition p n found o e =
     first-before b
     ∙ andThen-next (beforeRows b) _ (o .passed)
     ∙ sym (e
-    ∙ ap (rowsFault true (offerAt (rowOffers b 1 n))) (length-rowOffers b 1 n)
-    ∙ rows-own true b n (o .rows ∙ sym (contents-count b)))
+    ∙ ap (rowsFault true edition (offerAt (rowOffers b edition 1 n))) (length-rowOffers b edition 1 n)
+    ∙ rows-own true b edition n (o .edition ∙ sym (contents-edition b)) (o .rows ∙ sym (contents-count b)))
 
 -- ---- the workings
 
@@ -85,10 +85,10 @@ works-made c own o stop share row e f g =
     }
 
 -- they look at prices and quantities alone
-works-listed : (c : Curve) (prices quantities stamps resources : List ℕ) (n row : ℕ)
-    → worksAt c (listed prices quantities n) row ≡ worksAt c (rowsOf prices quantities stamps resources n) row
+works-listed : (c : Curve) (prices quantities stamps resources steps : List ℕ) (n row : ℕ)
+    → worksAt c (listed prices quantities n) row ≡ worksAt c (rowsOf prices quantities stamps resources steps n) row
 unfolding worksAt stopAt levelAt tenthAt nextAt clearedTotal stopLevel supply supplyBelow levelSum levelAmount rowShareAt shareAt shareDown remainder weighted
-works-listed c prices quantities stamps resources n row = refl
+works-listed c prices quantities stamps resources steps n row = refl
 
 -- worked over the columns of contents they are those of the contents
 pub works-stand : (c : Contents) (p : Parameters) (n : ℕ) (v : Columns) (w : Works) (row : ℕ) → Stands c p n v
@@ -96,6 +96,6 @@ pub works-stand : (c : Contents) (p : Parameters) (n : ℕ) (v : Columns) (w : W
 unfolding worksOf
 works-stand c p n v w row s e =
     e
-    ∙ works-listed (regionCurve p) (v .prices) (v .quantities) (v .stamps) (v .resources) n row
+    ∙ works-listed (regionCurve p) (v .prices) (v .quantities) (v .stamps) (v .resources) (v .steps) n row
     ∙ ap (λ (o : Offers). worksAt (regionCurve p) o row) (columns-offers c p n v s)
     ∙ ap (λ (q : Parameters). worksAt (regionCurve q) (offersOf (c .offers)) row) (s .own)

@@ -1,6 +1,7 @@
-// What can be read of a book whose form is right, whether it is accepted or not: its parameters, and the offer of a row.
+// What can be read of a book whose form is right, whether it is accepted or not: its edition, its parameters, and the offer of a row.
 use block::SIZE;
 use layout::form::form;
+use layout::reader::edition;
 use layout::reader::offer_count;
 use layout::reader::row_bytes;
 use values::Verdict;
@@ -13,7 +14,7 @@ ghost use Prim.Native.Nat.{_≤_};
 ghost use lib.ListN.{length};
 ghost use Rattle.layout.specs.Form.{formFault};
 ghost use Rattle.layout.specs.Read.{contentsOf};
-ghost use Rattle.workings.specs.Read.{headBy, offersBy, rowOf};
+ghost use Rattle.workings.specs.Read.{editionBy, headBy, offersBy, rowOf};
 
 // What block 0 states: the parameters, and how many offers follow.
 pub enum Head {
@@ -27,6 +28,16 @@ pub enum RowOffer {
     Offered(Offer),
     // no such row, or a book refused by 1 to 3
     Unread,
+}
+
+// The edition that a book states, and 0, which is none, of one refused by 1 to 3.
+pub fn edition_of(book: &[u8]) -> u32
+    ensures { λ r. ⌜ r ≡ editionBy (formFault (now (book .entry))) (contentsOf (now (book .entry))) ⌝ }
+{
+    if let Verdict::Refused(_, _) = form(book) {
+        return 0;
+    }
+    edition(book)
 }
 
 // What block 0 states.
@@ -54,7 +65,7 @@ pub fn offer_of(book: &[u8], row: usize) -> RowOffer
     ensures { λ r. ⌜ r ≡ rowOf (offersBy (formFault (now (book .entry))) (contentsOf (now (book .entry)))) row ⌝ }
 {
     if row < rows_of(book) {
-        RowOffer::Offered(offer_in(row_bytes(book, 1, row)))
+        RowOffer::Offered(offer_in(row_bytes(book, 1, row), edition(book)))
     } else {
         RowOffer::Unread
     }

@@ -45,9 +45,9 @@ fn works_at(p: Parameters, prices: &[u32], quantities: &[u32], n: usize, row: us
     }
 }
 
-// The workings of a row of a book whose parameters and number of rows have passed. Its rows are read once, into columns.
-fn works_opened(book: &[u8], p: Parameters, rows: u32, row: usize) -> WorksAnswer
-    requires { ⌜ Opened (now book) p rows ⌝ }
+// The workings of a row of a book whose edition, parameters and number of rows have passed. Its rows are read once, into columns.
+fn works_opened(book: &[u8], edition: u32, p: Parameters, rows: u32, row: usize) -> WorksAnswer
+    requires { ⌜ Opened (now book) edition p rows ⌝ }
     ensures { λ r. ⌜ r ≡ workedBy (firstFault (now (book .entry))) (worksOf (contentsOf (now (book .entry))) row) ⌝ }
 {
     let mut prices = [0u32; 600];
@@ -55,8 +55,10 @@ fn works_opened(book: &[u8], p: Parameters, rows: u32, row: usize) -> WorksAnswe
     let mut leasts = [0u32; 600];
     let mut resources = [0u32; 600];
     let mut stamps = [0u64; 600];
+    let mut steps = [0u32; 600];
     let found = read_rows(
         book,
+        edition,
         1,
         rows,
         true,
@@ -65,6 +67,7 @@ fn works_opened(book: &[u8], p: Parameters, rows: u32, row: usize) -> WorksAnswe
         &mut leasts,
         &mut resources,
         &mut stamps,
+        &mut steps,
     );
     if let Verdict::Refused(number, place) = found {
         return WorksAnswer::Refused(number, place);
@@ -85,5 +88,5 @@ pub fn workings(book: &[u8], row: usize) -> WorksAnswer
     if let Verdict::Refused(number, place) = fault {
         return WorksAnswer::Refused(number, place);
     }
-    works_opened(book, head.parameters, head.rows, row)
+    works_opened(book, head.edition, head.parameters, head.rows, row)
 }

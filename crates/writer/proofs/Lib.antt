@@ -1,7 +1,9 @@
-pub mod Puts
-pub mod Fields
 pub mod Raw
+pub mod Placed
+pub mod LeftOut
+pub mod Blocks
 pub mod Books
 pub mod Making
 pub mod Ranges
+pub mod Faults
 pub mod Decided

@@ -1,10 +1,14 @@
--- Parameters that pass 5 fit the bytes of block 0.
+-- Parameters that pass 5 fit the bytes of block 0, and offers that stand in their places fit theirs.
+--
+-- In order: a value; the parameters; an offer that stands, and its step.
 -- Assumes nothing.
 use mathlib.Core.Path.{_≡_, refl, sym, ap, _∙_}
-use mathlib.Core.Bool.{Bool, true}
+use mathlib.Core.Bool.{Bool, true, false, cond}
 use Prim.Native.Nat.{ℕ, _≤_, _<_}
 use native.Mathlib.Omega.{arith}
-use Rattle.laws.proofs.Cases.{and-right}
+use lib.Dec.{eqb}
+use borrow.Author.Tests.{eq-eqb, eqb-true}
+use Rattle.laws.proofs.Cases.{by-test, and-right}
 use Rattle.values.specs.Values.{held}
 use Rattle.values.specs.declared.Value.{Value}
 use Rattle.values.specs.declared.Value.the-variants.{Given, Missing}
@@ -12,11 +16,15 @@ use Rattle.values.specs.Refusals.{parameterOutOfRange, unless, andThen}
 use Rattle.values.specs.declared.Verdict.{Verdict}
 use Rattle.values.specs.declared.Verdict.the-variants.{Passed}
 use Rattle.values.specs.declared.head.Parameters.{Parameters}
+use Rattle.values.specs.declared.place.Offer.{Offer}
 use Rattle.values.proofs.Firsts.{unless-passed, andThen-left, andThen-right}
 use Rattle.limits.specs.Parameters.{within, givenWithin, byMargin, offsetMost, marginWithin, rangeFault}
 use Rattle.limits.proofs.Passing.{within-to}
-use Rattle.encoding.specs.Widths.{ValueFits}
-use Rattle.encoding.specs.inner.Fits.{ParametersFit}
+use Rattle.limits.specs.Offers.{stepWithin}
+use Rattle.encoding.specs.Widths.{ValueFits, OfferFits}
+use Rattle.encoding.specs.inner.Fits.{ParametersFit, StepFits}
+use Rattle.encoding.proofs.ReadFits.{step-fits}
+use Rattle.writer.proofs.Placed.{placed}
 
 -- a value within a range that 32 bits hold
 value-fits : (least most : ℕ) (v : Value) → most < 4294967296 → givenWithin least most v ≡ true → ValueFits v
@@ -64,3 +72,33 @@ range-fits p e =
       requirement = value-fits 1000 2000000 (p .requirement) (omega arith) requirement;
       margin = margin-fits (p .year) (p .margin) margin;
     }
+
+-- ---- an offer that stands
+
+module _ (edition : ℕ) (o : Offer) where
+  pub placed-fits : OfferFits o → OfferFits (placed edition o)
+  placed-fits fits =
+      by-test (stepWithin edition (o .step))
+      (λ there. rw there fits)
+      (λ left.
+      rw left record {
+        resource = omega arith;
+        seller = omega arith;
+        price = omega arith;
+        quantity = omega arith;
+        block = omega arith;
+        stamp = omega arith;
+      })
+
+  within-fits : stepWithin edition (o .step) ≡ true → StepFits edition (o .step)
+  within-fits = own (eqb edition 1) (λ e. eq-eqb edition 1 e)
+    where
+      own : (t : Bool) → (edition ≡ 1 → t ≡ true) → cond t (eqb (o .step) 1) (within 1 10 (o .step)) ≡ true → StepFits edition (o .step)
+      own true first e = let one = eqb-true (o .step) 1 e in record { one = λ f. one; byte = omega arith }
+      own false first e = record { one = λ f. cc (first f); byte = omega (arith, within-to 1 10 (o .step) e) }
+
+  pub placed-step : StepFits edition (placed edition o .step)
+  placed-step =
+      by-test (stepWithin edition (o .step))
+      (λ there. rw there (within-fits there))
+      (λ left. rw left (step-fits edition 0 (omega arith)))

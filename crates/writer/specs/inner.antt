@@ -1,3 +1,1 @@
-pub mod Put
-pub mod Rows
 pub mod Made

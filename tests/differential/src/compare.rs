@@ -119,6 +119,7 @@ fn crate_clears(book: &[u8], due: &[Row]) -> Result<(), String> {
     let clearing = ozpinduru::clear(book).map_err(|refusal| format!("the Rust crate is {refusal}"))?;
     let row = |row: &ozpinduru::Row| Row {
         resource: row.resource,
+        step: row.step,
         cleared: row.cleared.0,
         committed: row.committed.0,
         make_whole: row.make_whole.0,

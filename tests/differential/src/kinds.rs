@@ -2,12 +2,12 @@
 
 /// The kinds, as they are printed. A call is of one kind of the first line, of one of the second, and of any of the others;
 /// of a curve's prices each is counted.
-pub const KINDS: [&[&str]; 16] = [
+pub const KINDS: [&[&str]; 20] = [
     &["valid", "faulty", "damaged", "stray"],
     &["not laid out", "no offers", "1 to 15 offers", "16 to 599", "600"],
-    &["refused by 1", "by 2", "by 3", "by 4", "by 5", "by 6", "by 7", "by 8", "by 9"],
+    &["refused by 1", "by 2", "by 3", "by 4", "by 5", "by 6", "by 7", "by 8", "by 9", "by 10"],
     &["cleared buffer too short", "committed buffer too short", "buffers kept by a refusal", "buffers longer than the book"],
-    &["no price", "price 0", "make-whole", "spares by remainder", "by stamp", "by resource"],
+    &["no price", "price 0", "make-whole", "spares by remainder", "by stamp", "by resource", "by step"],
     &["read", "not read", "array too short", "report written", "room too small"],
     &[
         "cleared by a margin",
@@ -16,6 +16,23 @@ pub const KINDS: [&[&str]; 16] = [
         "margin over 5,000",
         "margin of 0 past 2025",
         "other past 2025",
+    ],
+    &[
+        "edition 2",
+        "cleared with steps past 1",
+        "cleared in 60 runs of ten",
+        "a step in part, the next none",
+        "step in edition 1",
+    ],
+    &[
+        "step 0",
+        "step over 10",
+        "step 1 repeats an earlier run",
+        "steps not neighbouring",
+        "steps not counted up",
+        "price that falls",
+        "block past step 1",
+        "prices fall past a missing one",
     ],
     &["curve drawn", "curve refused by 4", "curve refused by 5", "value of another kind"],
     &["curve by a margin", "curve refused by 4 at the margin", "by 5 at the margin"],
@@ -30,6 +47,7 @@ pub const KINDS: [&[&str]; 16] = [
     ],
     &["year of 365 days", "year of 366 days", "short before a century", "long before a century"],
     &["losers don't matter", "losers added", "losers taken out", "losers changed", "shared rows moved", "600 beside"],
+    &["steps come or go", "beside another edition"],
     &[
         "first refused",
         "second refused",
@@ -40,7 +58,8 @@ pub const KINDS: [&[&str]; 16] = [
         "offer in the second alone",
         "answers that differ with offers",
     ],
-    &["written", "not written by 19", "not written by 5", "not written by 7", "not written by 8", "not written by 20"],
+    &["written", "written in edition 2", "not written by 3", "not written by 19", "not written by 5", "not written by 7"],
+    &["not written by 8", "not written by 10", "not written by 20", "step of more than 8 bits", "step past 1 in edition 1"],
     &[
         "parameter left out",
         "price left out",

@@ -10,6 +10,7 @@ mod kinds;
 mod layouts;
 mod pairs;
 mod reading;
+mod steps;
 mod tally;
 mod texts;
 mod writing;

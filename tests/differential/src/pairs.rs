@@ -120,11 +120,14 @@ fn sold(price: u32, bytes: &[u8]) -> Result<Sold, String> {
 /// How the books differ though losers don't matter between them.
 fn shown(price: u32, one: &Book, two: &Book) -> Vec<&'static str> {
     let rows = |book| at_or_below(price, book).iter().map(|(row, _)| *row).collect::<Vec<usize>>();
+    let steps = |book: &Book| book.offers.iter().filter(|offer| offer.step > 1).count();
     let shown = [
         (one.offers.len() < two.offers.len(), "losers added"),
         (one.offers.len() > two.offers.len(), "losers taken out"),
         (one.offers.len() == two.offers.len() && one.offers != two.offers, "losers changed"),
         (rows(one) != rows(two), "shared rows moved"),
+        (steps(one) != steps(two), "steps come or go"),
+        (one.edition != two.edition, "beside another edition"),
         (one.offers.len().max(two.offers.len()) == MOST_OFFERS, "600 beside"),
     ];
     shown.into_iter().filter(|(holds, _)| *holds).map(|(_, kind)| kind).collect()

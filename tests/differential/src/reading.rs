@@ -29,19 +29,20 @@ pub fn read(book: &[u8], due: &Result<Book, Fault>, rng: &mut Rng) -> Result<Vec
 fn held(at: usize) -> Row {
     let number = 0x5EED_0000 + at as u32;
     let value = Value { kind: number, number: !number };
-    Row { stamp: !u64::from(number), resource: number, seller: !number, quantity: number, price: value, block: value }
+    let stamp = !u64::from(number);
+    Row { stamp, resource: number, seller: !number, quantity: number, price: value, block: value, step: number }
 }
 
 fn refused((number, place): Fault) -> Contents {
     let none = Value { kind: raw::NONE, number: NO_VALUE };
     let parameters =
         raw::Parameters { year: NO_VALUE, cost: none, offset: none, outage: none, requirement: none, margin: none };
-    Contents { kind: raw::REFUSED, rows: NO_VALUE, number, place, parameters }
+    Contents { kind: raw::REFUSED, rows: NO_VALUE, edition: NO_VALUE, number, place, parameters }
 }
 
 fn given(book: &Book) -> Contents {
-    let parameters = lent(&book.parameters);
-    Contents { kind: raw::GIVEN, rows: book.offers.len() as u32, number: NO_VALUE, place: NO_VALUE, parameters }
+    let (rows, edition, parameters) = (book.offers.len() as u32, book.edition, lent(&book.parameters));
+    Contents { kind: raw::GIVEN, rows, edition, number: NO_VALUE, place: NO_VALUE, parameters }
 }
 
 /// Parameters as they come out, and as they may go in again.
@@ -52,8 +53,8 @@ pub fn lent(p: &Parameters) -> raw::Parameters {
 }
 
 pub fn row(offer: &Offer) -> Row {
-    let &Offer { resource, seller, price, quantity, block, stamp } = offer;
-    Row { stamp, resource, seller, quantity, price: value(price), block: value(block) }
+    let &Offer { resource, seller, price, quantity, block, stamp, step } = offer;
+    Row { stamp, resource, seller, quantity, price: value(price), block: value(block), step }
 }
 
 /// A value on its way out.

@@ -2,6 +2,7 @@
 
 use crate::compare::Compared;
 use crate::kinds::KINDS;
+use crate::steps;
 use oracle::book::{self, Book, Offer, Parameters};
 use oracle::random::{Call, Kind};
 use oracle::{Clearing, Outcome};
@@ -9,7 +10,7 @@ use std::cmp::Reverse;
 use std::collections::BTreeMap;
 
 /// A run of so many calls has to meet every kind.
-const ENOUGH: u64 = 1_000;
+const ENOUGH: u64 = 10_000;
 
 #[derive(Default)]
 pub struct Tally {
@@ -25,6 +26,7 @@ impl Tally {
         let mut kinds = vec![kind(call), size(read.as_ref())];
         kinds.extend(&compared.kinds);
         kinds.extend(read.as_ref().and_then(|book| margin(&book.parameters, &compared.outcome)));
+        kinds.extend(steps::shown(&call.book, read.as_ref(), &compared.outcome));
         match &compared.outcome {
             Outcome::Refused { number, place } => refusal(call, *number, *place, &mut kinds),
             Outcome::Cleared(clearing) => {
@@ -121,13 +123,14 @@ fn contest(clearing: &Clearing, offers: &[Offer]) -> Option<&'static str> {
     let sum: u64 = level().map(|(offer, _)| u64::from(offer.quantity)).sum();
     let product = |offer: &Offer| u64::from(offer.quantity) * amount;
     let spare = amount - level().map(|(offer, _)| product(offer) / sum).sum::<u64>();
-    let mut turns: Vec<_> = level().map(|(offer, _)| (Reverse(product(offer) % sum), offer.stamp)).collect();
+    let mut turns: Vec<_> = level().map(|(offer, _)| (Reverse(product(offer) % sum), offer.stamp, offer.resource)).collect();
     turns.sort_unstable();
     let won = turns[(spare as usize).checked_sub(1)?];
     let lost = turns[spare as usize];
-    Some(match (won.0 == lost.0, won.1 == lost.1) {
-        (false, _) => "spares by remainder",
-        (true, false) => "by stamp",
-        (true, true) => "by resource",
+    Some(match (won.0 == lost.0, won.1 == lost.1, won.2 == lost.2) {
+        (false, ..) => "spares by remainder",
+        (true, false, _) => "by stamp",
+        (true, true, false) => "by resource",
+        (true, true, true) => "by step",
     })
 }

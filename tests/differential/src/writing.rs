@@ -7,20 +7,20 @@ use oracle::book::{Book, Fault, Offer, Parameters, LONGEST};
 use oracle::random::contents::contents;
 use oracle::random::Rng;
 use ozpinduru::raw::{self, Row, Text, NO_AMOUNT, NO_VALUE};
-use ozpinduru::{CentsPerMwDay, DollarsPerMwYear, Refusal, Tenths};
+use ozpinduru::{CentsPerMwDay, DollarsPerMwYear, Edition, Refusal, Tenths};
 
 /// Compares the book that random contents make; then, where the call's own book is read, what was read of it written back. Says
 /// of which kind both were.
 pub fn write(bytes: &[u8], read: &Result<Book, Fault>, rng: &mut Rng) -> Result<Vec<&'static str>, String> {
-    let (parameters, offers) = contents(rng);
+    let Book { edition, parameters, offers } = contents(rng);
     let mut asked = (lent(&parameters), offers.iter().map(row).collect());
     let odd = rng.percent(15).then(|| other_kind(rng, &mut asked));
     let (parameters, offers) = (heard(asked.0, &parameters), offers.iter().zip(&asked.1).map(heard_row).collect());
-    let due = Book { parameters, offers };
+    let due = Book { edition, parameters, offers };
     let mut kinds = written(asked, &due, rng)?;
     kinds.extend(odd);
-    if odd.is_none() {
-        by_the_crate(&due)?;
+    if let (None, Some(edition)) = (odd, Edition::of(due.edition)) {
+        by_the_crate(edition, &due)?;
     }
     kinds.extend(shown(&due));
     if let Ok(book) = read {
@@ -69,19 +69,21 @@ fn written((parameters, rows): Asked, book: &Book, rng: &mut Rng) -> Result<Vec<
     let (mut room, mut kept) = (before.clone(), before);
     let lent = rows.clone();
     // SAFETY: the rows and the room are lent with no more than their lengths.
-    let found = unsafe { raw::ozp_write(parameters, lent.as_ptr(), lent.len(), room[shift..].as_mut_ptr(), bytes) };
+    let found =
+        unsafe { raw::ozp_write(book.edition, parameters, lent.as_ptr(), lent.len(), room[shift..].as_mut_ptr(), bytes) };
     same("whether the rows are unchanged", lent == rows, true)?;
     let mut kinds = Vec::new();
-    match oracle::write(&book.parameters, &book.offers, bytes) {
+    match oracle::write(book, bytes) {
         Err((number, place)) => {
             same("what is written", found, Text { bytes: NO_AMOUNT, kind: raw::REFUSED, number, place })?;
             kinds.push(refusal(number));
+            kinds.extend(step_refused(number, place, book));
         }
         Ok(due) => {
             let count = due.len();
             same("what is written", found, Text { bytes: count as u64, kind: raw::GIVEN, number: NO_VALUE, place: NO_VALUE })?;
             kept[shift..shift + count].copy_from_slice(&due);
-            kinds.push("written");
+            kinds.push(if book.edition == 1 { "written" } else { "written in edition 2" });
             kinds.extend((bytes > count).then_some("room longer than the book"));
         }
     }
@@ -91,11 +93,23 @@ fn written((parameters, rows): Asked, book: &Book, rng: &mut Rng) -> Result<Vec<
 
 fn refusal(number: u32) -> &'static str {
     match number {
+        3 => "not written by 3",
         19 => "not written by 19",
         5 => "not written by 5",
         7 => "not written by 7",
         8 => "not written by 8",
+        10 => "not written by 10",
         _ => "not written by 20",
+    }
+}
+
+/// Which step a row was refused for, if it was: by 7 at a step that a row of its edition cannot have.
+fn step_refused(number: u32, place: u32, book: &Book) -> Option<&'static str> {
+    let step = book.offers.get(place as usize).filter(|_| number == 7)?.step;
+    match step {
+        256.. => Some("step of more than 8 bits"),
+        2..=10 if book.edition == 1 => Some("step past 1 in edition 1"),
+        _ => None,
     }
 }
 
@@ -115,21 +129,21 @@ fn shown(book: &Book) -> Vec<&'static str> {
 }
 
 /// The same by the Rust crate, and what is read of it again.
-fn by_the_crate(book: &Book) -> Result<(), String> {
+fn by_the_crate(edition: Edition, book: &Book) -> Result<(), String> {
     let (parameters, offers) = (given(&book.parameters), book.offers.iter().map(offer).collect::<Vec<_>>());
-    let found = ozpinduru::write(&parameters, &offers);
-    same_book(&found, &oracle::write(&book.parameters, &book.offers, LONGEST))?;
+    let found = ozpinduru::write(edition, &parameters, &offers);
+    same_book(&found, &oracle::write(book, LONGEST))?;
     match found {
-        Ok(bytes) => same("what is read again", ozpinduru::read(&bytes), Ok(ozpinduru::Book { parameters, offers })),
+        Ok(bytes) => same("what is read again", ozpinduru::read(&bytes), Ok(ozpinduru::Book { edition, parameters, offers })),
         Err(_) => Ok(()),
     }
 }
 
 /// What was read of a book, written back: its bytes where it is sound, else what keeps it from being sound.
 fn written_back(bytes: &[u8], book: &Book) -> Result<&'static str, String> {
-    let offers: Vec<_> = book.offers.iter().map(offer).collect();
+    let (edition, offers) = (Edition::of(book.edition), book.offers.iter().map(offer).collect::<Vec<_>>());
     let due = oracle::sound(bytes).map_or_else(|| Ok(bytes.to_vec()), Err);
-    same_book(&ozpinduru::write(&given(&book.parameters), &offers), &due)?;
+    same_book(&ozpinduru::write(edition.expect("an edition that is read"), &given(&book.parameters), &offers), &due)?;
     Ok(if due.is_ok() { "written back" } else { "not sound" })
 }
 
@@ -150,7 +164,7 @@ fn given(p: &Parameters) -> ozpinduru::Parameters {
 }
 
 fn offer(offer: &Offer) -> ozpinduru::Offer {
-    let &Offer { resource, seller, price, quantity, block, stamp } = offer;
+    let &Offer { resource, seller, price, quantity, block, stamp, step } = offer;
     let (price, quantity, block) = (price.map(CentsPerMwDay), Tenths(quantity), block.map(Tenths));
-    ozpinduru::Offer { resource, seller, price, quantity, block, stamp }
+    ozpinduru::Offer { resource, seller, price, quantity, block, stamp, step }
 }

@@ -14,6 +14,8 @@ pub const MOST_OFFERS: usize = 600;
 pub const LONGEST: usize = 20_992;
 /// Where C, E, F, R and the reserve margin stand in block 0, in the order of their marks.
 pub const VALUES_AT: [usize; 5] = [8, 12, 16, 20, 28];
+/// Where edition 2 has the step in a place.
+pub const STEP_AT: usize = 29;
 
 /// The values of one place.
 #[derive(Clone, Debug, PartialEq, Eq)]
@@ -24,11 +26,13 @@ pub struct Offer {
     pub quantity: u32,
     pub block: Option<u32>,
     pub stamp: u64,
+    pub step: u32,
 }
 
 /// A book that passes 1 to 3.
 #[derive(Clone, Debug, PartialEq, Eq)]
 pub struct Book {
+    pub edition: u32,
     pub parameters: Parameters,
     pub offers: Vec<Offer>,
 }
@@ -45,8 +49,9 @@ pub fn read(bytes: &[u8]) -> Result<Book, Fault> {
     if let Some(at) = (0..blocks.len()).find(|&at| !laid_out(&blocks, at)) {
         return Err((3, at as u32));
     }
-    let offers = (0..count(&blocks)).map(|row| offer(place(bytes, row))).collect();
-    Ok(Book { parameters: parameters(blocks[0]), offers })
+    let edition = edition(&blocks);
+    let offers = (0..count(&blocks)).map(|row| offer(place(bytes, row), edition)).collect();
+    Ok(Book { edition, parameters: parameters(blocks[0]), offers })
 }
 
 /// The bytes of a row, chosen by block and place.
@@ -83,6 +88,11 @@ fn marked(marks: u8, bit: u32) -> bool {
     marks >> bit & 1 == 1
 }
 
+/// The edition that block 0 tells.
+fn edition(blocks: &[&[u8]]) -> u32 {
+    number(blocks[0], 4, 2) as u32
+}
+
 /// The number of offers that block 0 tells.
 fn count(blocks: &[&[u8]]) -> usize {
     number(blocks[0], 24, 2) as usize
@@ -93,7 +103,7 @@ fn laid_out(blocks: &[&[u8]], at: usize) -> bool {
     if at == 0 {
         head_laid_out(blocks[0]) && count_fits(count(blocks), blocks.len())
     } else {
-        offers_laid_out(blocks[at], at, (count(blocks) - PLACES * (at - 1)).min(PLACES))
+        offers_laid_out(blocks[at], at, (count(blocks) - PLACES * (at - 1)).min(PLACES), edition(blocks))
     }
 }
 
@@ -104,26 +114,31 @@ fn count_fits(offers: usize, blocks: usize) -> bool {
 fn head_laid_out(block: &[u8]) -> bool {
     let marks = block[26];
     &block[..4] == b"RPMB"
-        && number(block, 4, 2) == 1
+        && [1, 2].contains(&number(block, 4, 2))
         && marks < 32
         && block[27] == 0
         && zero(&block[32..CHECKED])
         && VALUES_AT.iter().zip(0..).all(|(&at, bit)| marked(marks, bit) || zero(&block[at..at + 4]))
 }
 
-fn offers_laid_out(block: &[u8], at: usize, used: usize) -> bool {
+fn offers_laid_out(block: &[u8], at: usize, used: usize, edition: u32) -> bool {
     let (places, unused) = block[FIRST_PLACE..CHECKED].split_at(PLACE * used);
     &block[..4] == b"OFRS"
         && number(block, 4, 2) == at as u64
         && number(block, 6, 2) == used as u64
         && zero(&block[8..FIRST_PLACE])
-        && places.chunks(PLACE).all(place_laid_out)
+        && places.chunks(PLACE).all(|place| place_laid_out(place, edition))
         && zero(unused)
 }
 
-fn place_laid_out(place: &[u8]) -> bool {
+/// Edition 2 has any step in byte 29, where edition 1 has a zero.
+fn place_laid_out(place: &[u8], edition: u32) -> bool {
     let marks = place[28];
-    marks < 4 && zero(&place[29..]) && (marked(marks, 0) || zero(&place[8..12])) && (marked(marks, 1) || zero(&place[16..20]))
+    marks < 4
+        && (edition == 2 || place[STEP_AT] == 0)
+        && zero(&place[30..])
+        && (marked(marks, 0) || zero(&place[8..12]))
+        && (marked(marks, 1) || zero(&place[16..20]))
 }
 
 fn parameters(block: &[u8]) -> Parameters {
@@ -132,7 +147,8 @@ fn parameters(block: &[u8]) -> Parameters {
     Parameters { year: number(block, 6, 2) as u32, cost, offset, outage, requirement, margin }
 }
 
-fn offer(place: &[u8]) -> Offer {
+/// Books of edition 1 read as having step 1 throughout.
+fn offer(place: &[u8], edition: u32) -> Offer {
     Offer {
         resource: number32(place, 0),
         seller: number32(place, 4),
@@ -140,5 +156,6 @@ fn offer(place: &[u8]) -> Offer {
         quantity: number32(place, 12),
         block: marked(place[28], 1).then(|| number32(place, 16)),
         stamp: number(place, 20, 8),
+        step: if edition == 1 { 1 } else { place[STEP_AT].into() },
     }
 }

@@ -11,6 +11,7 @@ pub struct Priced {
     pub quantity: u32,
     pub stamp: u64,
     pub resource: u32,
+    pub step: u32,
 }
 
 /// The offers at one price.
@@ -88,12 +89,13 @@ pub fn amounts(total: u32, offers: &[Priced]) -> Vec<u32> {
 }
 
 /// Divides a level's amount: proportional parts rounded down, and the spare tenths one each to the largest remainders, then
-/// the earlier stamp, then the lower resource number.
+/// the earlier stamp, then the lower resource number, then the lower step.
 fn parts(amount: u64, level: &Level, offers: &[Priced]) -> Vec<(usize, u32)> {
     let product = |row: usize| u64::from(offers[row].quantity) * amount;
     let whole = |row: usize| (product(row) / level.sum) as u32;
     let mut order = level.rows.clone();
-    order.sort_by_key(|&row| (Reverse(product(row) % level.sum), offers[row].stamp, offers[row].resource));
+    let turn = |row: usize| (Reverse(product(row) % level.sum), offers[row].stamp, offers[row].resource, offers[row].step);
+    order.sort_by_key(|&row| turn(row));
     let spare = amount - order.iter().map(|&row| u64::from(whole(row))).sum::<u64>();
     order.iter().zip(0..).map(|(&row, turn)| (row, whole(row) + u32::from(turn < spare))).collect()
 }

@@ -55,6 +55,7 @@ pub struct Clearing {
 #[derive(Clone, Debug, PartialEq, Eq)]
 pub struct Row {
     pub resource: u32,
+    pub step: u32,
     pub cleared: u32,
     pub committed: u32,
     pub make_whole: u64,
@@ -71,7 +72,7 @@ pub fn clear(bytes: &[u8], cleared_len: usize, committed_len: usize) -> Outcome 
 /// The first fault of soundness, if there is one.
 pub fn sound(bytes: &[u8]) -> Option<book::Fault> {
     match book::read(bytes) {
-        Ok(book) => limits::out_of_range(&book.parameters).or_else(|| limits::rows(&book.offers, false)),
+        Ok(book) => limits::out_of_range(&book.parameters).or_else(|| limits::rows(book.edition, &book.offers, false)),
         Err(fault) => Some(fault),
     }
 }
@@ -106,7 +107,7 @@ fn admitted(bytes: &[u8], cleared_len: usize, committed_len: usize) -> Result<bo
     let book = book::read(bytes)?;
     let fault = limits::missing(&book.parameters)
         .or_else(|| limits::out_of_range(&book.parameters))
-        .or_else(|| limits::rows(&book.offers, true))
+        .or_else(|| limits::rows(book.edition, &book.offers, true))
         .or_else(|| limits::buffers(book.offers.len(), cleared_len, committed_len));
     match fault {
         Some(fault) => Err(fault),
@@ -130,7 +131,7 @@ fn settled(book: &book::Book) -> Clearing {
 
 fn priced(offer: &book::Offer) -> Priced {
     let price = offer.price.expect("an admitted offer has a price");
-    Priced { price, quantity: offer.quantity, stamp: offer.stamp, resource: offer.resource }
+    Priced { price, quantity: offer.quantity, stamp: offer.stamp, resource: offer.resource, step: offer.step }
 }
 
 /// Commitment and make-whole of one offer. With no price nothing has cleared, so nothing is committed or paid.
@@ -140,5 +141,5 @@ fn paid(offer: &book::Offer, cleared: u32, price: Option<u32>) -> Row {
         _ => cleared,
     };
     let make_whole = price.map_or(0, |price| u64::from(price) * u64::from(committed - cleared));
-    Row { resource: offer.resource, cleared, committed, make_whole }
+    Row { resource: offer.resource, step: offer.step, cleared, committed, make_whole }
 }

@@ -1,4 +1,4 @@
-//! Refusals 4 to 9: what the values of a well laid-out book may be. Each function gives the first fault of its kind.
+//! Refusals 4 to 10: what the values of a well laid-out book may be. Each function gives the first fault of its kind.
 
 use crate::book::{Fault, Offer, Parameters};
 
@@ -25,16 +25,19 @@ pub fn out_of_range(p: &Parameters) -> Option<Fault> {
     in_range.iter().position(|&fits| !fits).map(|at| (5, at as u32 + 1))
 }
 
-/// 6, 7, 8: the fault of the first faulty row. A missing price is a fault only where one is needed.
-pub fn rows(offers: &[Offer], price_needed: bool) -> Option<Fault> {
+/// 6, 7, 8, 10: the fault of the first faulty row. A missing price is a fault only where one is needed, and only a row with step
+/// 1 is tested for 8.
+pub fn rows(edition: u32, offers: &[Offer], price_needed: bool) -> Option<Fault> {
     (0..offers.len()).find_map(|row| {
         let offer = &offers[row];
         let number = if price_needed && offer.price.is_none() {
             6
-        } else if !offer_in_range(offer) {
+        } else if !offer_in_range(offer) || !step_in_range(edition, offer.step) {
             7
-        } else if offers[..row].iter().any(|earlier| earlier.resource == offer.resource) {
+        } else if offer.step == 1 && offers[..row].iter().any(|earlier| earlier.resource == offer.resource) {
             8
+        } else if step_breach(offers, row).is_some() {
+            10
         } else {
             return None;
         };
@@ -48,6 +51,48 @@ fn offer_in_range(offer: &Offer) -> bool {
         && offer.price.is_none_or(|price| price <= 1_000_000)
         && (1..=200_000).contains(&offer.quantity)
         && offer.block.is_none_or(|block| (1..=offer.quantity).contains(&block))
+}
+
+/// "1 to 10, or in edition 1" 1.
+fn step_in_range(edition: u32, step: u32) -> bool {
+    if edition == 1 {
+        step == 1
+    } else {
+        (1..=10).contains(&step)
+    }
+}
+
+/// What a row past step 1 breaks of the step rules.
+#[derive(Clone, Copy, Debug, PartialEq, Eq)]
+pub enum Breach {
+    /// The row before is of another resource, or there is none.
+    NotNeighbouring,
+    /// The row before has another step than the one below.
+    NotCountedUp,
+    /// The row before has a higher price; both are given.
+    PriceFalls,
+    /// Only step 1 may have a minimum block.
+    Block,
+}
+
+/// "A resource's steps stand in neighbouring rows, counted up from 1, prices never falling, and only step 1 may have a minimum
+/// block": what a row breaks of that.
+pub fn step_breach(offers: &[Offer], row: usize) -> Option<Breach> {
+    let offer = &offers[row];
+    if offer.step == 1 {
+        return None;
+    }
+    let Some(before) = offers[..row].last().filter(|before| before.resource == offer.resource) else {
+        return Some(Breach::NotNeighbouring);
+    };
+    let falls = matches!((before.price, offer.price), (Some(before), Some(price)) if price < before);
+    if before.step + 1 != offer.step {
+        Some(Breach::NotCountedUp)
+    } else if falls {
+        Some(Breach::PriceFalls)
+    } else {
+        offer.block.map(|_| Breach::Block)
+    }
 }
 
 /// 9: the first result buffer that is too short.

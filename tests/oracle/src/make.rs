@@ -1,6 +1,6 @@
 //! Writes books, sound or not: values go in as they are given, in or out of range.
 
-use crate::book::{sums, Offer, Parameters, BLOCK, CHECKED, FIRST_PLACE, PLACE, PLACES, VALUES_AT};
+use crate::book::{sums, Book, Offer, Parameters, BLOCK, CHECKED, FIRST_PLACE, PLACE, PLACES, STEP_AT, VALUES_AT};
 
 /// The parameters of the reference book.
 pub fn reference() -> Parameters {
@@ -8,16 +8,21 @@ pub fn reference() -> Parameters {
     Parameters { year: 2026, cost, offset, outage, requirement, margin: None }
 }
 
-/// A flexible offer.
+/// A flexible offer, step 1 of its resource.
 pub fn offer(resource: u32, quantity: u32, price: u32, stamp: u64) -> Offer {
-    Offer { resource, seller: 7, price: Some(price), quantity, block: None, stamp }
+    Offer { resource, seller: 7, price: Some(price), quantity, block: None, stamp, step: 1 }
 }
 
-/// The sealed blocks of a book, one after the other.
+/// The book of edition 1 with these parameters and offers.
 pub fn book(parameters: &Parameters, offers: &[Offer]) -> Vec<u8> {
-    let mut bytes = head(parameters, offers.len());
-    for (part, at) in offers.chunks(PLACES).zip(1..) {
-        bytes.extend(offer_block(part, at));
+    bytes(&Book { edition: 1, parameters: parameters.clone(), offers: offers.to_vec() })
+}
+
+/// The sealed blocks of a book, one after the other. Edition 1 has no bytes for a step.
+pub fn bytes(book: &Book) -> Vec<u8> {
+    let mut bytes = head(book);
+    for (part, at) in book.offers.chunks(PLACES).zip(1..) {
+        bytes.extend(offer_block(part, at, book.edition));
     }
     seal_all(&mut bytes);
     bytes
@@ -37,12 +42,13 @@ pub fn put(bytes: &mut [u8], at: usize, width: usize, number: u64) {
     bytes[at..at + width].copy_from_slice(&number.to_le_bytes()[..width]);
 }
 
-fn head(p: &Parameters, offers: usize) -> Vec<u8> {
+fn head(book: &Book) -> Vec<u8> {
+    let p = &book.parameters;
     let mut block = vec![0; BLOCK];
     block[..4].copy_from_slice(b"RPMB");
-    put(&mut block, 4, 2, 1);
+    put(&mut block, 4, 2, book.edition.into());
     put(&mut block, 6, 2, p.year.into());
-    put(&mut block, 24, 2, offers as u64);
+    put(&mut block, 24, 2, book.offers.len() as u64);
     let values = [p.cost, p.offset, p.outage, p.requirement, p.margin];
     for (bit, (value, at)) in values.into_iter().zip(VALUES_AT).enumerate() {
         put_given(&mut block, at, value, 26, bit);
@@ -50,7 +56,7 @@ fn head(p: &Parameters, offers: usize) -> Vec<u8> {
     block
 }
 
-fn offer_block(offers: &[Offer], at: u64) -> Vec<u8> {
+fn offer_block(offers: &[Offer], at: u64, edition: u32) -> Vec<u8> {
     let mut block = vec![0; BLOCK];
     block[..4].copy_from_slice(b"OFRS");
     put(&mut block, 4, 2, at);
@@ -62,6 +68,9 @@ fn offer_block(offers: &[Offer], at: u64) -> Vec<u8> {
         put(place, 12, 4, offer.quantity.into());
         put_given(place, 16, offer.block, 28, 1);
         put(place, 20, 8, offer.stamp);
+        if edition != 1 {
+            put(place, STEP_AT, 1, offer.step.into());
+        }
     }
     block
 }

@@ -7,6 +7,7 @@ mod columns;
 pub mod contents;
 pub mod damage;
 pub mod pairs;
+mod steps;
 pub mod valid;
 pub mod wrong;
 

@@ -7,7 +7,7 @@ use oracle::random::Rng;
 type Prices = [u32];
 
 fn offer(price: u32, quantity: u32, resource: u32) -> Priced {
-    Priced { price, quantity, stamp: 1, resource }
+    Priced { price, quantity, stamp: 1, resource, step: 1 }
 }
 
 /// The curve prices at 1, 2, up to the total, summed, minus each offer's price times its amount.

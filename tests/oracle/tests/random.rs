@@ -24,7 +24,7 @@ fn valid_books_clear() {
 
 #[test]
 fn half_clear_and_every_refusal_occurs() {
-    let mut seen = [0; 10];
+    let mut seen = [0; 11];
     for seed in 0..CALLS {
         match outcome(seed) {
             Outcome::Cleared(_) => seen[0] += 1,
@@ -43,8 +43,10 @@ fn soundness_agrees_with_clearing() {
         let fault = sound(&call(seed).book);
         let agrees = match outcome(seed) {
             Outcome::Cleared(_) | Outcome::Refused { number: 9, .. } => fault.is_none(),
-            Outcome::Refused { number: 4, .. } => fault.is_none_or(|(number, _)| [5, 7, 8].contains(&number)),
-            Outcome::Refused { number: 6, place } => fault.is_none_or(|(number, row)| [7, 8].contains(&number) && row >= place),
+            Outcome::Refused { number: 4, .. } => fault.is_none_or(|(number, _)| [5, 7, 8, 10].contains(&number)),
+            Outcome::Refused { number: 6, place } => {
+                fault.is_none_or(|(number, row)| [7, 8, 10].contains(&number) && row >= place)
+            }
             Outcome::Refused { number, place } => fault == Some((number, place)),
         };
         assert!(agrees, "seed {seed}: {fault:?}");

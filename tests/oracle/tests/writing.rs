@@ -1,11 +1,20 @@
 //! Writing books: what is refused, in which order, and that reading gives back what was written.
 
-use oracle::book::{read, Book, Offer, Parameters, LONGEST};
+use oracle::book::{read, Book, Fault, Offer, Parameters, LONGEST};
 use oracle::make::{offer, reference};
 use oracle::random::{call, contents::contents, Rng};
-use oracle::{sound, write};
+use oracle::sound;
 use std::fs;
 use std::path::Path;
+
+/// What a book of edition 1 would say.
+fn first(parameters: &Parameters, offers: &[Offer]) -> Book {
+    Book { edition: 1, parameters: parameters.clone(), offers: offers.to_vec() }
+}
+
+fn write(parameters: &Parameters, offers: &[Offer], room_len: usize) -> Result<Vec<u8>, Fault> {
+    oracle::write(&first(parameters, offers), room_len)
+}
 
 fn rows(number: u32) -> Vec<Offer> {
     (1..=number).map(|at| offer(at, 10, at, 1)).collect()
@@ -50,7 +59,7 @@ fn missing_values_are_written_and_read_as_missing() {
     let none = Parameters { year: 2022, cost: None, offset: Some(1_000_000), outage: None, requirement: None, margin: None };
     let offers = [Offer { price: None, ..offer(1, 10, 0, u64::MAX) }, offer(2, 10, 0, 0)];
     let book = write(&none, &offers, LONGEST).unwrap();
-    assert_eq!(read(&book), Ok(Book { parameters: none, offers: offers.to_vec() }));
+    assert_eq!(read(&book), Ok(first(&none, &offers)));
 }
 
 /// The books that ship, and random ones: those that are sound are written back byte for byte, and the others are refused as
@@ -64,7 +73,7 @@ fn books_are_written_back() {
         if let Ok(book) = read(&bytes) {
             let due = sound(&bytes).map_or(Ok(bytes), Err);
             written += u32::from(due.is_ok());
-            assert_eq!(write(&book.parameters, &book.offers, LONGEST), due);
+            assert_eq!(oracle::write(&book, LONGEST), due);
         }
     }
     assert!(written > 1_000, "{written}");
@@ -75,16 +84,16 @@ fn what_was_written_is_sound_and_is_read_back() {
     let mut seen = [0; 21];
     let mut rng = Rng::new(1);
     for _ in 0..5_000 {
-        let (parameters, offers) = contents(&mut rng);
-        match write(&parameters, &offers, rng.pick(&[LONGEST, LONGEST, LONGEST, 2_048])) {
+        let due = contents(&mut rng);
+        match oracle::write(&due, rng.pick(&[LONGEST, LONGEST, LONGEST, 2_048])) {
             Err((number, _)) => seen[number as usize] += 1,
             Ok(book) => {
                 seen[0] += 1;
                 assert_eq!(sound(&book), None);
-                assert_eq!(read(&book), Ok(Book { parameters, offers }));
+                assert_eq!(read(&book), Ok(due));
             }
         }
     }
     println!("written, then refused by number: {seen:?}");
-    assert!([0, 5, 7, 8, 19, 20].iter().all(|&number| seen[number] >= 100), "{seen:?}");
+    assert!([0, 3, 5, 7, 8, 10, 19, 20].iter().all(|&number| seen[number] >= 100), "{seen:?}");
 }

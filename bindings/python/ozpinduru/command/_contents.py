@@ -1,16 +1,18 @@
-"""What a book says, as JSON: the object of its parameters and the list of its offers, apart or in one document.
+"""What a book says, as JSON: its edition, the object of its parameters and the list of its offers, in one document; or apart, where
+the edition stands with the parameters.
 
 Names and units are the library's own. Every name stands there, with null for what is missing: a name that was left out or
-misspelt is not taken for a missing value.
+misspelt is not taken for a missing value. Only an edition and a step may be left out, and are 1 then.
 """
 import json
 from dataclasses import asdict, fields
-from typing import Any, NoReturn, TypeVar
+from typing import Any, NoReturn, Optional, TypeVar
 
 from .. import Book, Offer, Parameters
 
 Named = TypeVar("Named", Parameters, Offer)
 _MAY_BE_MISSING = {"cost", "offset", "outage", "requirement", "margin", "price", "block"}
+_MAY_BE_LEFT_OUT = {"step"}
 
 
 class Unusable(Exception):
@@ -18,7 +20,8 @@ class Unusable(Exception):
 
 
 def parameters_text(book: Book) -> str:
-    return json.dumps(asdict(book.parameters)) + "\n"
+    """The parameters, with the edition before them."""
+    return json.dumps({"edition": book.edition, **asdict(book.parameters)}) + "\n"
 
 
 def offers_text(book: Book, indent: str = "") -> str:
@@ -28,8 +31,8 @@ def offers_text(book: Book, indent: str = "") -> str:
 
 
 def document_text(book: Book) -> str:
-    parameters, offers = parameters_text(book).rstrip(), offers_text(book, "  ").rstrip()
-    return f'{{\n  "parameters": {parameters},\n  "offers": {offers}\n}}\n'
+    parameters, offers = json.dumps(asdict(book.parameters)), offers_text(book, "  ").rstrip()
+    return f'{{\n  "edition": {book.edition},\n  "parameters": {parameters},\n  "offers": {offers}\n}}\n'
 
 
 def parsed(data: bytes) -> Any:
@@ -51,8 +54,19 @@ def _no_number(text: str) -> NoReturn:
     raise ValueError(f"{text} is no whole number")
 
 
-def parameters_of(value: Any) -> Parameters:
-    return _made(Parameters, value, "the parameters")
+def parameters_of(value: Any) -> tuple[Parameters, Optional[int]]:
+    """Parameters, and the edition that may stand with them."""
+    edition, rest = _edition(value)
+    return _made(Parameters, rest, "the parameters"), edition
+
+
+def _edition(value: Any) -> tuple[Optional[int], Any]:
+    """The edition that an object says, if it does, and what else stands there."""
+    if not isinstance(value, dict) or "edition" not in value:
+        return None, value
+    if type(value["edition"]) is not int:
+        raise Unusable("'edition' is no whole number")
+    return value["edition"], {name: value[name] for name in value if name != "edition"}
 
 
 def offers_of(value: Any) -> list[Offer]:
@@ -61,10 +75,12 @@ def offers_of(value: Any) -> list[Offer]:
     return [_made(Offer, offer, f"offer {at}") for at, offer in enumerate(value)]
 
 
-def document_of(value: Any) -> Book:
-    if not isinstance(value, dict) or set(value) != {"parameters", "offers"}:
+def document_of(value: Any) -> tuple[Parameters, list[Offer], Optional[int]]:
+    """What a document says; its edition may be left out."""
+    edition, rest = _edition(value)
+    if not isinstance(rest, dict) or set(rest) != {"parameters", "offers"}:
         raise Unusable('no object of "parameters" and "offers"; a list of offers alone goes with --parameters')
-    return Book(parameters_of(value["parameters"]), offers_of(value["offers"]))
+    return _made(Parameters, rest["parameters"], "the parameters"), offers_of(rest["offers"]), edition
 
 
 def _made(kind: type[Named], value: Any, what: str) -> Named:
@@ -74,6 +90,8 @@ def _made(kind: type[Named], value: Any, what: str) -> Named:
         raise Unusable(f"{what} should be an object")
     for name in names:
         if name not in value:
+            if name in _MAY_BE_LEFT_OUT:
+                continue
             raise Unusable(f"{what}: there is no {name!r}; null says that a value is missing")
         number = value[name]
         if not (type(number) is int or number is None and name in _MAY_BE_MISSING):

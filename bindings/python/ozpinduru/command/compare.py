@@ -17,7 +17,7 @@ from .. import Comparison, Offer, Parameters, Quote, RefusedBook, compare, read
 from .._refusal import FIELDS
 from ._books import ANSWERED, REFUSED, UNREADABLE, as_json, opened, refused, shown
 from ._streams import complain, say
-from .._units import dollars, money, sold
+from .._units import dollars, money, named, sold
 
 _FIELDS = ("year", "cost", "offset", "outage", "requirement", "margin")
 
@@ -42,7 +42,7 @@ def _apart(o: Offer, other: Offer) -> str:
 
 
 def _alone(book: str, row: int, o: Offer, price: int, absent: str) -> str:
-    return (f"row {row} of {book}, resource {o.resource} at {dollars(o.price or 0)}, is at or below {dollars(price)}, "
+    return (f"row {row} of {book}, {named(o.resource, o.step)} at {dollars(o.price or 0)}, is at or below {dollars(price)}, "
             f"and {absent} has no such offer more")
 
 
@@ -52,8 +52,8 @@ def _why(c: Comparison, parameters: tuple[Parameters, Parameters], offers: tuple
         return "nothing clears in the first book, so there is no price to compare to"
     if c.field is not None:
         one, two = (getattr(p, _FIELDS[c.field - 1]) for p in parameters)
-        named = f"field {c.field} ({FIELDS[c.field - 1]})"
-        return f"{named} differs, {_values(one)} and {_values(two)}, and the curve or the year with it"
+        field = f"field {c.field} ({FIELDS[c.field - 1]})"
+        return f"{field} differs, {_values(one)} and {_values(two)}, and the curve or the year with it"
     if c.row is None and c.other is not None:
         return _alone("the second book", c.other, offers[1][c.other], c.first.price, "the first")
     if c.other is None and c.row is not None:

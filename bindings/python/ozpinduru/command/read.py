@@ -1,13 +1,14 @@
 """What a book states, as JSON that `ozp write` takes; null is what is missing.
 
-    ozp read BOOK                                  one document: parameters and offers
+    ozp read BOOK                                  one document: edition, parameters and offers
     ozp read BOOK -o FILE                          the same into a file
-    ozp read BOOK --parameters FILE -o FILE        the parameters and the list of offers apart
+    ozp read BOOK --parameters FILE -o FILE        the edition and the parameters, and the list of offers apart
 
 Of the parameters: year, cost and offset (dollars per MW-year), outage (hundredths of a percent), requirement (tenths of a
 megawatt) and margin (hundredths of a percent). Of an offer: resource, seller, price (cents per MW-day), quantity, block (tenths
-of a megawatt) and stamp. Values are read whether they are in range or not. Of a book that cannot be read, refused by 1, 2 or 3,
-the document is book and "refused": number, place, where and when; no file is then touched.
+of a megawatt), stamp and step, which is 1 throughout in edition 1. Values are read whether they are in range or not. Of a book
+that cannot be read, refused by 1, 2 or 3, the document is book and "refused": number, place, where and when; no file is then
+touched.
 """
 import argparse
 import json

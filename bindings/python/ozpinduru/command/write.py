@@ -1,11 +1,12 @@
 """Writes the book that says given parameters and offers, which are JSON as `ozp read` gives them.
 
-    ozp write FILE -o BOOK                         one document: parameters and offers
-    ozp write --parameters FILE FILE -o BOOK       the parameters and the list of offers apart
+    ozp write FILE -o BOOK                         one document: edition, parameters and offers
+    ozp write --parameters FILE FILE -o BOOK       the edition and the parameters, and the list of offers apart
 
-Every name stands in every object, with null for what is missing: `ozp read --help` has the names. The book is written whole and
-then moved into its place; where it is refused or cannot be written, a file that stands there is left as it is. With --json: book,
-offers and bytes; refused contents have "refused": number, place, where and when.
+Every name stands in every object, with null for what is missing: `ozp read --help` has the names. Where no step stands, it is 1;
+where no edition stands, it is that of --edition, else 1. The book is written whole and then moved into its place; where it is
+refused or cannot be written, a file that stands there is left as it is. With --json: book, edition, offers and bytes; refused
+contents have "refused": number, place, where and when.
 """
 import argparse
 from typing import Any, Callable, TypeVar
@@ -24,6 +25,7 @@ def arguments(parser: argparse.ArgumentParser) -> None:
     parser.add_argument("offers", metavar="FILE",
                         help="parameters and offers, or with --parameters the list of offers; - for standard input")
     parser.add_argument("--parameters", metavar="FILE", help="the parameters alone")
+    parser.add_argument("--edition", type=int, choices=(1, 2), help="the edition, where the JSON does not say one; else 1")
     parser.add_argument("-o", "--output", metavar="BOOK", required=True, help="the book that is written")
     as_json(parser)
 
@@ -40,14 +42,20 @@ def _taken(name: str, made: Callable[[Any], Made]) -> Made:
 
 def _contents(asked: argparse.Namespace) -> Book:
     if asked.parameters is None:
-        return _taken(asked.offers, document_of)
-    return Book(_taken(asked.parameters, parameters_of), _taken(asked.offers, offers_of))
+        parameters, offers, said = _taken(asked.offers, document_of)
+    else:
+        (parameters, said), offers = _taken(asked.parameters, parameters_of), _taken(asked.offers, offers_of)
+    if said is not None and asked.edition is not None:
+        raise Unusable(f"the JSON says edition {said} itself: leave --edition out")
+    return Book(parameters, offers, said if said is not None else asked.edition or 1)
 
 
 def _answer(book: Book, name: str) -> Answer:
-    data = write_book(book.parameters, book.offers)
+    data = write_book(book.parameters, book.offers, book.edition)
     put({name: data})
-    return f"written, {len(book.offers)} offers in {len(data):,} bytes", {"offers": len(book.offers), "bytes": len(data)}
+    values = {"edition": book.edition, "offers": len(book.offers), "bytes": len(data)}
+    edition = "" if book.edition == 1 else f"edition {book.edition}, "
+    return f"written, {edition}{len(book.offers)} offers in {len(data):,} bytes", values
 
 
 def run(asked: argparse.Namespace) -> int:

@@ -8,7 +8,7 @@ from . import _words as words
 from ._marks import beside, curve, dots, lines, point_names, price_name
 from ._panel import Panel, axes, grid
 from ._stack import Stack, stack_of
-from ._steps import hatch, onward, steps, ties
+from ._steps import MOST_RUNS, hatch, onward, runs, steps, ties
 from ._svg import element, line, style, text, told, way, wide
 from ._view import View, slope, whole
 
@@ -30,6 +30,8 @@ def _keys(stack: Stack) -> list[tuple[str, str]]:
         (any(row.cleared for row in gets), box("cleared", "outline"), "cleared"),
         (any(row.committed > row.cleared for row in gets), box("committed", "outline"), "committed by a block, not cleared"),
         (any(step.offer.quantity > step.gets.committed for step in stack.steps), box("outline"), "offered, not cleared"),
+        (0 < len(stack.runs) <= MOST_RUNS, way("run", "M", 4, 0, "L", 15, -8) + "".join(
+            element("circle", class_="knot", cx=x, cy=y, r=2.5) for x, y in ((4, 0), (15, -8))), "steps of one resource"),
         (bool(stack.ties), way("tied", "M", 0.5, 1, "V", -5, "H", 18.5, "V", 1), "tied at one price"),
         (True, falling, "requirement curve"),
     ]
@@ -37,8 +39,11 @@ def _keys(stack: Stack) -> list[tuple[str, str]]:
 
 
 def _legend(stack: Stack, y: float) -> str:
+    """The keys in a line, and in a second one where they are too many for it."""
     drawn, x = [], float(_MARGIN)
     for sample, said in _keys(stack):
+        if x + 26 + wide(said) > _WIDTH - _MARGIN:
+            x, y = float(_MARGIN), y + 17
         drawn.append(element("g", sample, text("ink", 26, 0, said), transform=f"translate({x:g} {y:g})"))
         x += 26 + wide(said) + 18
     return element("g", *drawn, class_="legend")
@@ -47,7 +52,7 @@ def _legend(stack: Stack, y: float) -> str:
 def _panel(panel: Panel, stack: Stack, named: bool) -> str:
     """All of a panel; the points of the curve are named in one of two."""
     names = (point_names(panel, stack) if named else []) + price_name(panel, stack)
-    return element("g", grid(panel), steps(panel, stack), beside(panel, names), curve(panel, stack), lines(panel, stack),
+    return element("g", grid(panel), steps(panel, stack), runs(panel, stack), beside(panel, names), curve(panel, stack), lines(panel, stack),
                    dots(panel, stack), ties(panel, stack), onward(panel, stack), axes(panel), class_="panel")
 
 

@@ -1,13 +1,17 @@
-"""The steps of the stack in a panel: what clears is filled, what a block commits besides is hatched, the rest is hollow."""
+"""The steps of the stack in a panel: what clears is filled, what a block commits besides is hatched, the rest is hollow; and which
+of them one resource sells."""
 from __future__ import annotations
 
 from ._panel import FOOT, Panel
 from ._stack import Level, Stack, Step
 from ._svg import Coordinate, element, text, told, way, wide
-from ._words import offer_words, tie_words
+from ._words import offer_words, run_words, tie_words
 
 # Steps that are narrower than this, in pixels, have no line between them.
 _NARROW = 3
+
+# Lines that join the steps of a resource are drawn where no more resources than this have any: more would hide each other.
+MOST_RUNS = 8
 
 # How far the bracket of a tied level stands over its steps, and how far its ends reach back to them.
 _OVER, _END = 6, 4
@@ -33,11 +37,12 @@ def _narrow(panel: Panel, step: Step) -> bool:
 
 def _step(panel: Panel, step: Step) -> str:
     cleared, committed = step.start + step.gets.cleared, step.start + step.gets.committed
+    named = {"data_resource": str(step.offer.resource), **({"data_step": str(step.offer.step)} if step.of > 1 else {})}
     return element("g", told("title", offer_words(step)),
                    _part(panel, "cleared", step.price, step.start, cleared),
                    _part(panel, "committed", step.price, cleared, committed),
                    _part(panel, "offered", step.price, step.start, step.end),
-                   class_="step narrow" if _narrow(panel, step) else "step", data_resource=str(step.offer.resource))
+                   class_="step narrow" if _narrow(panel, step) else "step", **named)
 
 
 def _between(panel: Panel, seen: list[Step]) -> str:
@@ -66,6 +71,22 @@ def steps(panel: Panel, stack: Stack) -> str:
     """The steps that are seen, each with its words, and the lines that part them from each other and from what is over them."""
     seen = [step for step in stack.steps if panel.shows(step.start, step.end)]
     return "".join(_step(panel, step) for step in seen) + _between(panel, seen) + (_outline(panel, seen) if seen else "")
+
+
+def _run(panel: Panel, run: list[Step]) -> str:
+    """A line from step to step of a resource, with a knot in the middle of each that is seen."""
+    seen = [step for step in run if panel.shows(step.start, step.end) and step.price <= panel.view.top]
+    at = [((panel.x(step.start) + panel.x(step.end)) / 2, (panel.y(step.price) + panel.foot) / 2) for step in seen]
+    if len(at) < 2:
+        return ""
+    steps = [part for letter, (x, y) in zip(["M", *"L" * len(at)], at) for part in (letter, x, y)]
+    knots = "".join(element("circle", class_="knot", cx=x, cy=y, r=2.5) for x, y in at)
+    return element("g", told("title", run_words(run)), way("run", *steps), knots, class_="steps")
+
+
+def runs(panel: Panel, stack: Stack) -> str:
+    """The resources that sell in several steps, if they are few."""
+    return "".join(_run(panel, run) for run in stack.runs) if len(stack.runs) <= MOST_RUNS else ""
 
 
 def onward(panel: Panel, stack: Stack) -> str:

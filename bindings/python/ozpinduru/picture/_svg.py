@@ -25,6 +25,8 @@ _COLOURS = {
     "seam": ("stroke", "#ffffff", "#10151b"),
     "outline": ("stroke", "#1d4f86", "#a9d0f7"),
     "tied": ("stroke", "#16202a", "#edf2f7"),
+    "run": ("stroke", "#5b2a86", "#e3c7ff"),
+    "knot": ("fill", "#5b2a86", "#e3c7ff"),
     "casing": ("stroke", "#ffffff", "#10151b"),
     "curve": ("stroke", "#b8420b", "#ff9a4d"),
     "point": ("fill", "#b8420b", "#ff9a4d"),
@@ -48,6 +50,7 @@ _SHAPES = {
     "curve": "fill:none;stroke-width:2.2px;stroke-linejoin:round",
     "total": "fill:none;stroke-width:1.6px",
     "price": "fill:none;stroke-width:1.6px;stroke-dasharray:7 3",
+    "run": "fill:none;stroke-width:1.4px;stroke-dasharray:4 2",
     "leader": "fill:none;stroke-dasharray:1 3",
     **dict.fromkeys(("grid", "axis", "edge", "outline", "tied"), "fill:none"),
 }

@@ -16,11 +16,23 @@ def count(number: int, thing: str) -> str:
     return f"{number or 'no'} {thing}{'' if number == 1 else 's'}"
 
 
+def name_words(step: Step) -> str:
+    """An offer by its resource and, where that sells in several steps, by its own."""
+    return f"resource {step.offer.resource}" + (f", step {step.offer.step} of {step.of}" if step.of > 1 else "")
+
+
+def run_words(run: list[Step]) -> str:
+    """A resource that sells in steps, for who points at the line that joins them."""
+    cleared = sum(step.gets.cleared for step in run)
+    return (f"resource {run[0].offer.resource} sells in {len(run)} steps, from {dollars(run[0].price)} to "
+            f"{dollars(run[-1].price)}; cleared {megawatts(cleared)} of {megawatts(sum(step.offer.quantity for step in run))}")
+
+
 def offer_words(step: Step) -> str:
     """A step, for who points at it."""
     block = "" if step.offer.block is None else f", minimum block {megawatts(step.offer.block)}"
     whole = f", made whole {money(step.gets.make_whole)} a day" if step.gets.make_whole else ""
-    return (f"resource {step.offer.resource}: {megawatts(step.offer.quantity)} offered at {dollars(step.price)}{block}; "
+    return (f"{name_words(step)}: {megawatts(step.offer.quantity)} offered at {dollars(step.price)}{block}; "
             f"cleared {megawatts(step.gets.cleared)}, committed {megawatts(step.gets.committed)}{whole}")
 
 
@@ -85,6 +97,8 @@ def description(stack: Stack, view: View) -> str:
             f"The curve is level at {dollars(c.p1)} up to {megawatts(c.q1)}, then falls straight to {dollars(c.p2)} at "
             f"{megawatts(c.q2)}, and straight to {dollars(c.p3)} at {megawatts(c.q3)}.",
             f"{headline(stack)}{': ' + _reason(stack) if stack.price is None else ''}."]
+    if stack.runs:
+        said.append(f"{count(len(stack.runs), 'resource')} with several steps: {count(sum(map(len, stack.runs)), 'offer')}.")
     if stack.ties:
         said.append(f"Prices at which offers are tied: {len(stack.ties)}.")
     said += [f"At {dollars(level.price)}, where the total stops, {level.offers} are tied: {megawatts(level.cleared)} of "

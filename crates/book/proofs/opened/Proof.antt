@@ -50,8 +50,11 @@ blocks-fault-requires c κs = search needs
 and-then-requires-2 : tie.Need-and-then-requires-2
 and-then-requires-2 c κs = search needs
 
+edition-requires : tie.Need-edition-requires
+edition-requires c κs = one-block _ (c .before .before .before .before .before .before .before .before .pre)
+
 offer-count-requires : tie.Need-offer-count-requires
-offer-count-requires c κs = one-block _ (c .before .before .before .before .before .before .before .before .pre)
+offer-count-requires c κs = one-block _ (c .before .before .before .before .before .before .before .before .before .pre)
 
 -- what the calls ensure, of the parameters that the book says
 tested : (c : tie.After-and-then) →
@@ -66,12 +69,13 @@ tested c =
 returns : tie.Need-returns
 unfolding contentsOf blockOf
 returns c =
-    let both = c .before .before .before in
+    let both = c .before .before .before .before in
     record {
       fault =
-          before-told _ (both .before .before .before .before .before .before .pre) _ _ _ (c .before .before .blocks-fault .ensures)
+          before-told _ (both .before .before .before .before .before .before .pre) _ _ _ (c .before .before .before .blocks-fault .ensures)
           (tested both)
-          (c .before .and-then2 .ensures);
+          (c .before .before .and-then2 .ensures);
+      edition = c .before .edition .ensures .0;
       parameters = both .before .before .before .parameters-in .ensures;
       rows = c .offer-count .ensures .0 ∙ contents-count _;
     }
@@ -89,5 +93,6 @@ opened-spec =
     and-then-requires
     blocks-fault-requires
     and-then-requires-2
+    edition-requires
     offer-count-requires
     returns)

@@ -65,21 +65,24 @@ returns-2 c =
 enum-told-2 : tie.Need-enum-told-2
 enum-told-2 c = search needs
 
+edition-requires : tie.Need-edition-requires
+edition-requires c κs = form-passed-length _ (formed (c .before .before .before .before .before))
+
 offer-count-requires : tie.Need-offer-count-requires
-offer-count-requires c κs = form-passed-length _ (formed (c .before .before .before .before .before))
+offer-count-requires c κs = form-passed-length _ (formed (c .before .before .before .before .before .before))
 
 rows-fault-requires : tie.Need-rows-fault-requires
 rows-fault-requires c κs =
-    rw (c .offer-count .ensures .0) (form-inside _ (formed (c .before .before .before .before .before .before)))
+    rw (c .offer-count .ensures .0) (form-inside _ (formed (c .before .before .before .before .before .before .before)))
 
 returns-3 : tie.Need-returns-3
 returns-3 c =
-    let tested = c .before .before .before .before in
+    let tested = c .before .before .before .before .before in
     c .rows-fault .ensures
-    ∙ rows-own _ _ _ (c .before .offer-count .ensures .0)
+    ∙ rows-own _ _ _ _ (c .before .before .edition .ensures .0) (c .before .offer-count .ensures .0)
     ∙ sym
     (sound-formed _ (formed (tested .before .before .before))
-    ∙ andThen-next _ _ (sym (range-told tested) ∙ c .before .before .enum-told2 .given .1))
+    ∙ andThen-next _ _ (sym (range-told tested) ∙ c .before .before .before .enum-told2 .given .1))
 
 pub soundness-spec : {M : Type 1} → statement M
 soundness-spec =
@@ -97,6 +100,7 @@ soundness-spec =
     enum-known-number-2
     returns-2
     enum-told-2
+    edition-requires
     offer-count-requires
     rows-fault-requires
     returns-3)

@@ -4,9 +4,9 @@ use mathlib.Core.Path.{_≡_, sym, subst, _∙_}
 use borrow.Author.Needs.{needs}
 use Rattle.values.specs.declared.Verdict.the-variants.{Passed}
 use Rattle.values.proofs.Firsts.{andThen-next, andThen-refused}
-use Rattle.layout.specs.Form.{offerCount}
+use Rattle.layout.specs.Form.{editionOf, offerCount}
 use Rattle.layout.specs.inner.Read.{Inside}
-use Rattle.layout.proofs.Contained.{contents-count}
+use Rattle.layout.proofs.Contained.{contents-edition, contents-count}
 use Rattle.book.specs.inner.Opening.{beforeRows}
 use Rattle.book.proofs.Stages.{first-before, before-length, before-form, form-inside, rows-own}
 use Rattle.book.proofs.verdict.Statement.{statement}
@@ -44,7 +44,12 @@ enum-told-2 c = search needs
 before : (c : tie.After-enum-told2) → beforeRows (c .before .before .before .before .before .before .before .args .book .now) ≡ Passed
 before c = sym (c .before .before .opened .ensures .fault) ∙ c .enum-told2 .given .1
 
--- and the rows are as many as block 0 states
+-- the edition is the one that block 0 states
+edition-own : (c : tie.After-enum-told2)
+    → c .before .before .opened .result .edition ≡ editionOf (c .before .before .before .before .before .before .before .args .book .now)
+edition-own c = c .before .before .opened .ensures .edition ∙ sym (contents-edition _)
+
+-- and the rows are as many as it states
 rows-count : (c : tie.After-enum-told2)
     → c .before .before .opened .result .rows ≡ offerCount (c .before .before .before .before .before .before .before .args .book .now)
 rows-count c = c .before .before .opened .ensures .rows ∙ sym (contents-count _)
@@ -57,7 +62,7 @@ rows-fault-requires c κs =
 returns-3 : tie.Need-returns-3
 returns-3 c =
     c .rows-fault .ensures
-    ∙ rows-own _ _ _ (rows-count (c .before))
+    ∙ rows-own _ _ _ _ (edition-own (c .before)) (rows-count (c .before))
     ∙ sym (first-before _ ∙ andThen-next _ _ (before (c .before)))
 
 pub verdict-spec : {M : Type 1} → statement M

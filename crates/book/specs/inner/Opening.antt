@@ -17,14 +17,16 @@ use Rattle.book.specs.declared.Opening.{Opening}
 unfoldable pub beforeRows : List ℕ → Verdict
 beforeRows b = andThen (formFault b) (parametersFault (contentsOf b .parameters))
 
--- the fault, the parameters and the number of rows of a book
+-- the fault, the edition, the parameters and the number of rows of a book
 pub record OpensAs (b : List ℕ) (o : Opening) : Type 0 where
   pub fault : o .fault ≡ beforeRows b
+  pub edition : o .edition ≡ contentsOf b .edition
   pub parameters : o .parameters ≡ contentsOf b .parameters
   pub rows : o .rows ≡ length (contentsOf b .offers)
 
--- parameters and a number of rows that a book says, and that passed
-pub record Opened (b : List ℕ) (p : Parameters) (n : ℕ) : Type 0 where
+-- an edition, parameters and a number of rows that a book says, and that passed
+pub record Opened (b : List ℕ) (e : ℕ) (p : Parameters) (n : ℕ) : Type 0 where
   pub passed : beforeRows b ≡ Passed
+  pub edition : e ≡ contentsOf b .edition
   pub parameters : p ≡ contentsOf b .parameters
   pub rows : n ≡ length (contentsOf b .offers)

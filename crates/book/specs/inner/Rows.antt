@@ -1,6 +1,6 @@
 -- What reading and testing the rows of a book yields.
 -- Assumes nothing.
-use Prim.Native.Nat.{ℕ, _+_, _≤_}
+use Prim.Native.Nat.{ℕ, _+_, _-_, _*_, _/_, _≤_}
 use mathlib.Core.Path.{_≡_}
 use mathlib.Core.Bool.{Bool}
 use mathlib.Core.List.{List}
@@ -9,26 +9,33 @@ use Rattle.values.specs.Contents.{offerAt}
 use Rattle.values.specs.declared.Verdict.{Verdict}
 use Rattle.values.specs.declared.Verdict.the-variants.{Passed, Refused}
 use Rattle.values.specs.declared.place.Offer.{Offer}
+use Rattle.layout.specs.Read.{rowOffer}
 use Rattle.limits.specs.Offers.{rowsFault}
 use Rattle.limits.specs.inner.Rows.{valuesFault}
 use Rattle.columns.specs.inner.Columns.{Columns, ColumnsRead}
+
+-- a row of a book, its own offer and the number of the row before it, which is 0 for row 0
+pub record RowAt (b : List ℕ) (edition first : ℕ) (o : Offer) (before row : ℕ) : Type 0 where
+  pub within : (first + row / 15) * 512 + 512 ≤ length b
+  pub own : o ≡ rowOffer b edition first row
+  pub behind : before ≡ row - 1
 
 -- how many rows are read before the tests of values end: all n, or those up to the refused one
 abbrev pub rowsTested : Verdict → ℕ → ℕ
 rowsTested Passed n = n
 rowsTested (Refused number row) n = row + 1
 
--- the first fault by 6 or 7 among the first n offers, and the columns of the rows up to it
-pub record ValuesRead (needed : Bool) (offers : List Offer) (n : ℕ) (fault : Verdict) (before after : Columns) : Type 0 where
-  pub found : fault ≡ valuesFault needed (offerAt offers) n
+-- the first fault by 6, 7 or 10 among the first n offers, and the columns of the rows up to it
+pub record ValuesRead (needed : Bool) (edition : ℕ) (offers : List Offer) (n : ℕ) (fault : Verdict) (before after : Columns) : Type 0 where
+  pub found : fault ≡ valuesFault needed edition (offerAt offers) n
   pub within : rowsTested fault n ≤ n
   pub read : ColumnsRead offers (rowsTested fault n) before after
 
--- how many rows stand in the columns once they are tested: all, or those up to the first that 6 or 7 refuses
-abbrev pub rowsStored : Bool → List Offer → ℕ
-rowsStored needed offers = rowsTested (valuesFault needed (offerAt offers) (length offers)) (length offers)
+-- how many rows stand in the columns once they are tested: all, or those up to the first that 6, 7 or 10 refuses
+abbrev pub rowsStored : Bool → ℕ → List Offer → ℕ
+rowsStored needed edition offers = rowsTested (valuesFault needed edition (offerAt offers) (length offers)) (length offers)
 
 -- the first fault of offers, and the columns
-pub record RowsRead (needed : Bool) (offers : List Offer) (fault : Verdict) (before after : Columns) : Type 0 where
-  pub found : fault ≡ rowsFault needed (offerAt offers) (length offers)
-  pub read : ColumnsRead offers (rowsStored needed offers) before after
+pub record RowsRead (needed : Bool) (edition : ℕ) (offers : List Offer) (fault : Verdict) (before after : Columns) : Type 0 where
+  pub found : fault ≡ rowsFault needed edition (offerAt offers) (length offers)
+  pub read : ColumnsRead offers (rowsStored needed edition offers) before after

@@ -29,17 +29,21 @@ module _ (offers : List Offer) (row : ℕ) where
   abbrev pub rowStamp : ℕ
   rowStamp = offerAt offers row .stamp
 
+  abbrev pub rowStep : ℕ
+  rowStep = offerAt offers row .step
+
 -- a list that was `before` holds n rows of a column
 abbrev pub Column : (ℕ → ℕ) → ℕ → List ℕ → List ℕ → Type 0
 Column value n before after = after ≡ filled value n before
 
--- the first n rows of four columns as offers
-abbrev pub rowsOf : (prices quantities stamps resources : List ℕ) → ℕ → Offers
-rowsOf prices quantities stamps resources n =
+-- the first n rows of five columns as offers
+abbrev pub rowsOf : (prices quantities stamps resources steps : List ℕ) → ℕ → Offers
+rowsOf prices quantities stamps resources steps n =
     record {
       count = n;
       price = λ i. getD prices i 0;
       quantity = λ i. getD quantities i 0;
       stamp = λ i. getD stamps i 0;
       resource = λ i. getD resources i 0;
+      step = λ i. getD steps i 0;
     }

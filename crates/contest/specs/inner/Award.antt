@@ -1,4 +1,4 @@
--- What the contest by one key, and by all four, leaves of a list of standings.
+-- What the contest by one key, and by all five, leaves of a list of standings.
 -- Assumes nothing.
 use Prim.Native.Nat.{ℕ, _≤_, _<_}
 use mathlib.Core.Path.{_≡_}
@@ -24,12 +24,13 @@ Sifted keys n entry spare exit left =
     (rest : ℕ → ℕ → Bool) → ((i : ℕ) → rest i i ≡ false) → KeyTold n (thenBy (keyAt keys) rest) rest entry spare exit left
 
 -- what `award` asks of its lists
-pub record Ready (k₁ k₂ k₃ k₄ standings : List ℕ) (n : ℕ) : Type 0 where
-  -- each of the first n rows has four keys and a standing
+pub record Ready (k₁ k₂ k₃ k₄ k₅ standings : List ℕ) (n : ℕ) : Type 0 where
+  -- each of the first n rows has five keys and a standing
   pub first : n ≤ length k₁
   pub second : n ≤ length k₂
   pub third : n ≤ length k₃
   pub fourth : n ≤ length k₄
+  pub fifth : n ≤ length k₅
   pub standing : n ≤ length standings
   -- there are no more rows than a book has
   pub few : n ≤ 600
@@ -37,10 +38,10 @@ pub record Ready (k₁ k₂ k₃ k₄ standings : List ℕ) (n : ℕ) : Type 0 w
   pub fresh : (i : ℕ) → i < n → getD standings i 0 ≤ 1
 
 -- what `award` leaves
-pub record Awarded (k₁ k₂ k₃ k₄ entry : List ℕ) (n spare : ℕ) (exit : List ℕ) : Type 0 where
+pub record Awarded (k₁ k₂ k₃ k₄ k₅ entry : List ℕ) (n spare : ℕ) (exit : List ℕ) : Type 0 where
   -- there are as many rows as before
   pub rows : length exit ≡ length entry
-  -- each of the first n stands at 1 where it wins a spare tenth by the four keys, and else at 0
-  pub within : (i : ℕ) → i < n → getD exit i 0 ≡ cond (wins (contenders entry) (inOrder k₁ k₂ k₃ k₄) n spare i) 1 0
+  -- each of the first n stands at 1 where it wins a spare tenth by the five keys, and else at 0
+  pub within : (i : ℕ) → i < n → getD exit i 0 ≡ cond (wins (contenders entry) (inOrder k₁ k₂ k₃ k₄ k₅) n spare i) 1 0
   -- the others stand as they did
   pub beyond : (i : ℕ) → n ≤ i → getD exit i 0 ≡ getD entry i 0

@@ -18,10 +18,11 @@ wins contends before n spare i = contends i && ltb (countWhere (λ j. contends j
 abbrev pub contenders : List ℕ → ℕ → Bool
 contenders standings i = eqb (getD standings i 0) 1
 
--- the order by four lists of keys, one after another
-abbrev pub inOrder : List ℕ → List ℕ → List ℕ → List ℕ → ℕ → ℕ → Bool
-inOrder k₁ k₂ k₃ k₄ =
+-- the order by five lists of keys, one after another
+abbrev pub inOrder : List ℕ → List ℕ → List ℕ → List ℕ → List ℕ → ℕ → ℕ → Bool
+inOrder k₁ k₂ k₃ k₄ k₅ =
     thenBy (λ i. getD k₁ i 0)
     (thenBy (λ i. getD k₂ i 0)
     (thenBy (λ i. getD k₃ i 0)
-    (byKey (λ i. getD k₄ i 0))))
+    (thenBy (λ i. getD k₄ i 0)
+    (byKey (λ i. getD k₅ i 0)))))

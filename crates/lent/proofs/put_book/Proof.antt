@@ -41,14 +41,14 @@ same-length c = search needs
 returns : tie.Need-returns
 returns c =
     let m = made-as (c .before .before .before .before .before .before .before .before .parameters-in .ensures) (c .before .before .before .before .before .before .make-book .ensures) in
-    finished-refused _ _ _ _ m _ _ (c .before .before .number .given .1) (c .refused .ensures)
+    finished-refused _ _ _ _ _ m _ _ (c .before .before .number .given .1) (c .refused .ensures)
 
 enum-told : tie.Need-enum-told
 enum-told c = search needs
 
 -- src/lib.rt:48:29
 bytes-for-requires : tie.Need-bytes-for-requires
-bytes-for-requires c κs = made-few _ _ _ (c .before .before .before .before .before .before .before .before .before .before .args .room .now) (c .before .before .before .before .before .make-book .ensures) (c .before .enum-told .given .1)
+bytes-for-requires c κs = made-few _ _ _ _ (c .before .before .before .before .before .before .before .before .before .before .args .room .now) (c .before .before .before .before .before .make-book .ensures) (c .before .enum-told .given .1)
 
 -- src/lib.rt:48:20
 sub-put-text : tie.Need-sub-put-text
@@ -78,8 +78,8 @@ same-length-3 c = search needs
 returns-2 : tie.Need-returns-2
 returns-2 c =
     let m = made-as (c .before .before .before .before .before .before .before .before .before .before .before .before .before .parameters-in .ensures) (c .before .before .before .before .before .before .before .before .before .before .before .make-book .ensures) in
-    let book = c .before .before .before .before .before .before .before .before .before .before .before .make-book .last .1 .1 .0 in
-    finished-put _ _ _ _ m _ (c .before .before .before .before .before .before .before .enum-told .given .1) (search needs)
+    let book = c .before .before .before .before .before .before .before .before .before .before .before .make-book .last .1 .1 .1 .0 in
+    finished-put _ _ _ _ _ m _ (c .before .before .before .before .before .before .before .enum-told .given .1) (search needs)
     (ap (λ (k : ℕ). take k book) (sub-zero _ ∙ c .before .before .before .before .before .bytes-for .ensures .0))
     (c .before .before .put-text .ensures)
 

@@ -1,4 +1,4 @@
-use Rattle.writer.specs.inner.Rows.{putRow}
+use Rattle.places.specs.inner.Rows.{putRow}
 use mathlib.Core.Path.{ap, _∙_}
 use native.Mathlib.Omega.{arith}
 use borrow.Author.Needs.{needs}
@@ -7,7 +7,7 @@ use Rattle.lent.proofs.put_row.Tie as tie
 use Rattle.lent.proofs.put_row.Reads as reads
 use Rattle.lent.proofs.put_row.Lts as lts
 use Rattle.plain.proofs.given.offer_in.Reads as offer-in-reads
-use Rattle.writer.proofs.put_row.Reads as put-row-reads
+use Rattle.places.proofs.place.put_row.Reads as put-row-reads
 
 -- src/lib.rt:31:30
 offer-in-requires : tie.Need-offer-in-requires
@@ -25,7 +25,7 @@ same-length c = search needs
 returns : tie.Need-returns
 returns c =
     let a = c .before .before .before .before .before .before .args in
-    c .before .before .put-row .ensures ∙ ap (putRow (a .book .now) (a .i)) (c .before .before .before .offer-in .ensures)
+    c .before .before .put-row .ensures ∙ ap (putRow (a .book .now) (a .edition) (a .i)) (c .before .before .before .offer-in .ensures)
 
 pub put-row-spec : {M : Type 1} → statement M
 put-row-spec = tie.close (tie.spec offer-in-requires put-row-requires same-length returns)

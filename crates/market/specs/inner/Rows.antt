@@ -14,7 +14,7 @@ pub record RowLists (prices quantities : List ℕ) (n : ℕ) : Type 0 where
   pub small : (i : ℕ) → i < n → getD quantities i 0 ≤ 200000
   pub cheap : (i : ℕ) → i < n → getD prices i 0 ≤ 1000000
 
--- the offers of two lists; the total and the price look at no stamp and no resource number
+-- the offers of two lists; the total and the price look at no stamp, no resource number and no step
 abbrev pub listed : List ℕ → List ℕ → ℕ → Offers
 listed prices quantities n =
     record {
@@ -23,4 +23,5 @@ listed prices quantities n =
       quantity = λ i. getD quantities i 0;
       stamp = λ i. 0;
       resource = λ i. 0;
+      step = λ i. 0;
     }

@@ -9,6 +9,9 @@ use Rattle.report.proofs.put_offer.Tie as tie
 row-bytes-requires : tie.Need-row-bytes-requires
 row-bytes-requires c κs = search needs
 
+edition-requires : tie.Need-edition-requires
+edition-requires c κs = search needs
+
 offer-in-requires : tie.Need-offer-in-requires
 offer-in-requires c κs = search needs
 
@@ -24,7 +27,7 @@ same-length c = search needs
 returns : tie.Need-returns
 returns c =
     let put = c .before .before .put-row .ensures in (
-      row-told _ _ _ _ _ _ _ _ (c .before .before .before .before .before .before .row-bytes .ensures .0) (c .before .before .before .before .before .offer-in .ensures) (c .before .before .before .make-whole .ensures) (put .0),
+      row-told _ _ _ _ _ _ _ _ _ (c .before .before .before .before .before .before .before .row-bytes .ensures .0) (c .before .before .before .before .before .before .edition .ensures .0) (c .before .before .before .before .before .offer-in .ensures) (c .before .before .before .make-whole .ensures) (put .0),
       omega (arith, put .1),
     )
 
@@ -33,6 +36,7 @@ put-offer-spec =
     tie.close
     (tie.spec
     row-bytes-requires
+    edition-requires
     offer-in-requires
     make-whole-requires
     put-row-requires

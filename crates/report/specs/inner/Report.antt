@@ -6,7 +6,7 @@ use mathlib.Core.Option.{Option}
 use lib.ListN.{getD}
 use Rattle.auction.specs.Settlement.{mills}
 use Rattle.settle.specs.inner.Read.{quoted}
-use Rattle.layout.specs.Form.{offerCount}
+use Rattle.layout.specs.Form.{editionOf, offerCount}
 use Rattle.layout.specs.Read.{rowOffer}
 use Rattle.sale.specs.Auction.{total, price}
 use Rattle.sale.specs.declared.Clearing.{Clearing}
@@ -16,7 +16,7 @@ use Rattle.report.specs.Report.{linesText}
 -- a row's line, with what it clears and commits in two lists
 abbrev pub soldLine : List ℕ → Option ℕ → List ℕ → List ℕ → ℕ → List ℕ
 soldLine b quote cleared committed row =
-    rowText (rowOffer b 1 row .resource) (getD cleared row 0) (getD committed row 0)
+    rowText (rowOffer b (editionOf b) 1 row .resource) (getD cleared row 0) (getD committed row 0)
     (mills quote (getD committed row 0 - getD cleared row 0))
 
 -- those of a clearing whose rows stand in two lists

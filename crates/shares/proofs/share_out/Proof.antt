@@ -12,7 +12,7 @@ use Rattle.auction.specs.Offers.{Offers}
 use Rattle.auction.specs.Shares.{spareTenths}
 use Rattle.columns.specs.inner.Column.{rowsOf}
 use Rattle.parts.specs.inner.Divides.{DividesRows}
-use Rattle.shares.specs.inner.Steps.{Stopped, HoldsParts}
+use Rattle.shares.specs.inner.Stages.{Stopped, HoldsParts}
 use Rattle.shares.proofs.Given.{rows-stopped, rows-divide}
 use Rattle.shares.proofs.Holding.{parts-rows, held-spare}
 use Rattle.shares.proofs.Outcome.{given-shared, parts-shared}
@@ -22,20 +22,20 @@ use Rattle.shares.proofs.share_out.Tie as tie
 abbrev rows : tie.Start → Offers
 rows s =
     let a = s .args in
-    rowsOf (a .prices .now) (a .quantities .now) (a .stamps .now) (a .resources .now) (a .n)
+    rowsOf (a .prices .now) (a .quantities .now) (a .stamps .now) (a .resources .now) (a .steps .now) (a .n)
 
 stopped : (s : tie.Start) → Stopped (rows s) (s .args .level)
-stopped s = rows-stopped _ _ _ _ _ _ (s .pre .0 .0) (s .pre .0 .1) (s .pre .1 .1)
+stopped s = rows-stopped _ _ _ _ _ _ _ (s .pre .0 .0) (s .pre .0 .1) (s .pre .1 .1)
 
 divides : (s : tie.Start) → DividesRows (s .args .level) (s .args .prices .now) (s .args .quantities .now) (s .args .n)
-divides s = rows-divide _ _ _ _ _ _ (s .pre .0 .0) (s .pre .0 .1) (s .pre .1 .1)
+divides s = rows-divide _ _ _ _ (s .args .steps .now) _ _ (s .pre .0 .0) (s .pre .0 .1) (s .pre .1 .1)
 
 parts-requires : tie.Need-parts-requires
-parts-requires c κs = (divides (c .before .before .before .before .before .before), search needs)
+parts-requires c κs = (divides (c .before .before .before .before .before .before .before), search needs)
 
 -- the function's entry, and the list that the parts fill, from where they are written
 abbrev entry : tie.After-parts → tie.Start
-entry c = c .before .before .before .before .before .before .before
+entry c = c .before .before .before .before .before .before .before .before
 
 abbrev parted : tie.After-parts → List ℕ
 parted c = c .parts .last .1 .1 .1 .1 .0
@@ -59,7 +59,7 @@ spares : (c : tie.After-held-at) → let s = entry (c .before .before .before .b
 spares c =
     let p = c .before .before .before .before in
     let a = entry p .args in
-    held-spare _ _ (a .stamps .now) (a .resources .now) _ _ (stopped (entry p)) (parted p) (holds p) _
+    held-spare _ _ (a .stamps .now) (a .resources .now) (a .steps .now) _ _ (stopped (entry p)) (parted p) (holds p) _
     (c .held-at .ensures)
 
 sub-spare : tie.Need-sub-spare

@@ -14,7 +14,8 @@ pub record SharedOut (o : Offers) (x : ℕ) (before after : List ℕ) : Type 0 w
   pub past : (i : ℕ) → o .count ≤ i → getD after i 0 ≡ getD before i 0
 
 -- the lists that order the rows for the spare tenths are long enough, and every row offers something
-pub record Ordered (quantities stamps resources : List ℕ) (n : ℕ) : Type 0 where
+pub record Ordered (quantities stamps resources steps : List ℕ) (n : ℕ) : Type 0 where
   pub stamps-long : n ≤ length stamps
   pub resources-long : n ≤ length resources
+  pub steps-long : n ≤ length steps
   pub positive : (i : ℕ) → i < n → 0 < getD quantities i 0

@@ -74,6 +74,12 @@ slice-aggregate-put-text-11 c = search needs
 put-text-requires-11 : tie.Need-put-text-requires-11
 put-text-requires-11 c κs = search needs
 
+slice-aggregate-put-text-12 : tie.Need-slice-aggregate-put-text-12
+slice-aggregate-put-text-12 c = search needs
+
+put-text-requires-12 : tie.Need-put-text-requires-12
+put-text-requires-12 c κs = search needs
+
 no-text-requires : tie.Need-no-text-requires
 no-text-requires c κs = search needs
 
@@ -154,11 +160,18 @@ returns-11 : tie.Need-returns-11
 unfolding bytesOf wordsOf
 returns-11 c = told-as (words-known (c .before .before .before .before .before .match .keys11)) (c .before .before .put-text11 .ensures)
 
+same-length-12 : tie.Need-same-length-12
+same-length-12 c = search needs
+
 returns-12 : tie.Need-returns-12
-returns-12 c =
+unfolding bytesOf wordsOf
+returns-12 c = told-as (words-known (c .before .before .before .before .before .match .keys12)) (c .before .before .put-text12 .ensures)
+
+returns-13 : tie.Need-returns-13
+returns-13 c =
     let m = c .before .match .rest in
     rw (c .no-text .ensures)
-    (told-none _ _ (ap length (words-none _ (m .0 .0 .0 .0 .0 .0 .0 .0 .0 .0 .1) (m .0 .0 .0 .0 .0 .0 .0 .0 .0 .1) (m .0 .0 .0 .0 .0 .0 .0 .0 .1) (m .0 .0 .0 .0 .0 .0 .0 .1) (m .0 .0 .0 .0 .0 .0 .1) (m .0 .0 .0 .0 .0 .1) (m .0 .0 .0 .0 .1) (m .0 .0 .0 .1) (m .0 .0 .1) (m .0 .1) (m .1))))
+    (told-none _ _ (ap length (words-none _ (m .0 .0 .0 .0 .0 .0 .0 .0 .0 .0 .0 .1) (m .0 .0 .0 .0 .0 .0 .0 .0 .0 .0 .1) (m .0 .0 .0 .0 .0 .0 .0 .0 .0 .1) (m .0 .0 .0 .0 .0 .0 .0 .0 .1) (m .0 .0 .0 .0 .0 .0 .0 .1) (m .0 .0 .0 .0 .0 .0 .1) (m .0 .0 .0 .0 .0 .1) (m .0 .0 .0 .0 .1) (m .0 .0 .0 .1) (m .0 .0 .1) (m .0 .1) (m .1))))
 
 pub words-spec : {M : Type 1} → statement M
 words-spec =
@@ -186,6 +199,8 @@ words-spec =
     put-text-requires-10
     slice-aggregate-put-text-11
     put-text-requires-11
+    slice-aggregate-put-text-12
+    put-text-requires-12
     no-text-requires
     same-length
     returns
@@ -209,4 +224,6 @@ words-spec =
     returns-10
     same-length-11
     returns-11
-    returns-12)
+    same-length-12
+    returns-12
+    returns-13)

@@ -1,80 +1,38 @@
--- The book that is made around rows that stand in their places.
---
--- In order: how many bytes it has; a block sealed in its place; block 0; a block of rows, and all of them; the book; what making
--- it answers and leaves.
+-- What making a book around rows that stand in their places answers and leaves.
 -- Assumes nothing.
-use Prim.Native.Nat.{ℕ, zero, suc, _+_, _*_}
+use Prim.Native.Nat.{ℕ, _+_, _*_}
 use mathlib.Core.Path.{_≡_}
 use mathlib.Core.Bool.{false}
-use mathlib.Core.List.{List, _++_}
+use mathlib.Core.List.{List}
 use lib.Dec.{leb}
-use lib.ListN.{take, drop}
-use Rattle.block.specs.Check.{firstSum, secondSum}
+use lib.ListN.{take}
 use Rattle.values.specs.Contents.{offerAt}
-use Rattle.values.specs.Refusals.{unless, andThen, tooManyRows, bufferBy}
+use Rattle.values.specs.Refusals.{unless, andThen, wrongLayout, tooManyRows, bufferBy}
 use Rattle.values.specs.declared.Verdict.{Verdict}
 use Rattle.values.specs.declared.head.Parameters.{Parameters}
-use Rattle.layout.specs.Section.{blocksFor, rowsHere}
-use Rattle.layout.specs.Layout.{rpmb}
-use Rattle.layout.specs.Form.{ofrs}
+use Rattle.layout.specs.Layout.{editionKnown}
+use Rattle.layout.specs.Section.{blocksFor}
 use Rattle.layout.specs.Read.{rowOffers}
 use Rattle.limits.specs.Parameters.{rangeFault}
 use Rattle.limits.specs.Offers.{rowsFault}
-use Rattle.encoding.specs.Numbers.{u16Bytes, valueBytes}
-use Rattle.encoding.specs.Encode.{headMarks}
-use Rattle.writer.specs.inner.Put.{put}
+use Rattle.making.specs.inner.Made.{bookMade}
 
 -- how many bytes the book of so many rows has
 abbrev pub bytesFor : ℕ → ℕ
 bytesFor rows = 512 * (1 + blocksFor rows)
 
--- both sums of the block that starts at a place, in its last four bytes
-unfoldable pub sealedAt : List ℕ → ℕ → List ℕ
-sealedAt b at =
-    let s = take 512 (drop at b) in
-    put b (at + 508) (u16Bytes (firstSum s) ++ u16Bytes (secondSum s))
+-- 3 of the edition, 19, and then 5
+unfoldable pub beforeMade : ℕ → Parameters → ℕ → Verdict
+beforeMade edition p rows =
+    andThen (unless (editionKnown edition) (wrongLayout 0)) (andThen (unless (leb rows 600) tooManyRows) (rangeFault p))
 
--- C, E, F and R
-unfoldable pub fourValues : Parameters → List ℕ
-fourValues p = valueBytes (p .cost) ++ (valueBytes (p .offset) ++ (valueBytes (p .outage) ++ valueBytes (p .requirement)))
-
--- the first 32 bytes of block 0
-unfoldable pub opening : Parameters → ℕ → List ℕ
-opening p rows =
-    rpmb
-    ++ (u16Bytes 1
-    ++ (u16Bytes (p .year)
-    ++ (valueBytes (p .cost)
-    ++ (valueBytes (p .offset)
-    ++ (valueBytes (p .outage)
-    ++ (valueBytes (p .requirement)
-    ++ (u16Bytes rows
-    ++ (u16Bytes (headMarks p)
-    ++ valueBytes (p .margin)))))))))
-
--- block number k, with so many rows
-unfoldable pub blockMade : List ℕ → ℕ → ℕ → List ℕ
-blockMade b k here = sealedAt (put b (k * 512) (ofrs ++ (u16Bytes k ++ u16Bytes here))) (k * 512)
-
--- the first blocks of so many rows
-unfoldable pub blocksMade : List ℕ → ℕ → ℕ → List ℕ
-blocksMade b rows zero = b
-blocksMade b rows (suc j) = blockMade (blocksMade b rows j) (j + 1) (rowsHere rows j)
-
--- the book, and behind it what stood there
-unfoldable pub bookMade : Parameters → ℕ → List ℕ → List ℕ
-bookMade p rows b = blocksMade (sealedAt (put b 0 (opening p rows)) 0) rows (blocksFor rows)
-
--- 19, and then 5
-unfoldable pub beforeMade : Parameters → ℕ → Verdict
-beforeMade p rows = andThen (unless (leb rows 600) tooManyRows) (rangeFault p)
-
--- and then 7 and 8 of the rows that are read from the book made
-unfoldable pub madeFault : Parameters → ℕ → List ℕ → Verdict
-madeFault p rows b =
-    andThen (beforeMade p rows) (rowsFault false (offerAt (rowOffers (take (bytesFor rows) (bookMade p rows b)) 1 rows)) rows)
+-- and then 7, 8 and 10 of the rows that are read from the book made
+unfoldable pub madeFault : ℕ → Parameters → ℕ → List ℕ → Verdict
+madeFault edition p rows b =
+    andThen (beforeMade edition p rows)
+    (rowsFault false edition (offerAt (rowOffers (take (bytesFor rows) (bookMade edition p rows b)) edition 1 rows)) rows)
 
 -- what making a book answers and leaves
-pub record Made (p : Parameters) (rows : ℕ) (b : List ℕ) (r : Verdict) (b′ : List ℕ) : Type 0 where
-  pub fault : r ≡ madeFault p rows b
-  pub made : b′ ≡ bufferBy (beforeMade p rows) b (bookMade p rows b)
+pub record Made (edition : ℕ) (p : Parameters) (rows : ℕ) (b : List ℕ) (r : Verdict) (b′ : List ℕ) : Type 0 where
+  pub fault : r ≡ madeFault edition p rows b
+  pub made : b′ ≡ bufferBy (beforeMade edition p rows) b (bookMade edition p rows b)

@@ -1,47 +1,62 @@
-//! What a writer of books is given: parameters and rows, with values missing, out of range, too wide for their bytes or repeated.
+//! What a writer of books is given: an edition, parameters and rows, with values missing, out of range, too wide for their bytes or
+//! repeated, and with steps that break their rules.
 
-use super::wrong::{spoil_parameter, spoil_row};
-use super::{valid, Rng};
-use crate::book::{Offer, Parameters};
+use super::wrong::{spoil_offers, spoil_parameter};
+use super::{steps, valid, Rng};
+use crate::book::{Book, Offer};
 use crate::make;
 
-/// Parameters and rows, of which half can be written, given room enough; some are more than a book may have.
-pub fn contents(rng: &mut Rng) -> (Parameters, Vec<Offer>) {
-    let (mut parameters, mut offers) = valid::values(rng);
+/// What a book would say: half can be written, given room enough; some have more rows than a book may have.
+pub fn contents(rng: &mut Rng) -> Book {
+    let mut book = valid::values(rng);
     if rng.percent(60) {
-        leave_out(rng, &mut parameters, &mut offers);
+        leave_out(rng, &mut book);
     }
     if rng.percent(40) {
-        spoil(rng, &mut parameters, &mut offers);
+        spoil(rng, &mut book);
     }
     if rng.percent(5) {
-        overfill(rng, &mut offers);
+        overfill(rng, &mut book.offers);
     }
-    (parameters, offers)
+    if rng.percent(6) {
+        book.edition = rng.pick(&[0, 3, 1, 2, 3, 257, 65_537, u32::MAX]);
+    }
+    book
 }
 
 /// Any of the parameters, prices and minimum blocks missing.
-fn leave_out(rng: &mut Rng, p: &mut Parameters, offers: &mut [Offer]) {
+fn leave_out(rng: &mut Rng, book: &mut Book) {
+    let p = &mut book.parameters;
     for value in [&mut p.cost, &mut p.offset, &mut p.outage, &mut p.requirement, &mut p.margin] {
         *value = value.filter(|_| rng.percent(70));
     }
     let most = rng.pick(&[0, 10, 100]);
-    for offer in offers {
+    for offer in &mut book.offers {
         offer.price = offer.price.filter(|_| !rng.percent(most));
         offer.block = offer.block.filter(|_| !rng.percent(most));
     }
 }
 
-/// One to three values out of range, too wide or repeated.
-fn spoil(rng: &mut Rng, p: &mut Parameters, offers: &mut [Offer]) {
+/// One to three values out of range, too wide or repeated, or steps that break their rules.
+fn spoil(rng: &mut Rng, book: &mut Book) {
     for _ in 0..rng.pick(&[1, 1, 2, 3]) {
-        match rng.draw() % 10 {
+        let p = &mut book.parameters;
+        match rng.draw() % 12 {
             0 => p.year = rng.pick(&[65_536, 65_536 + p.year, (1 << 31) + p.year, u32::MAX]),
             1..=3 => spoil_parameter(rng, p),
-            _ if offers.is_empty() => spoil_parameter(rng, p),
-            _ => spoil_row(rng, offers),
+            _ if book.offers.is_empty() => spoil_parameter(rng, p),
+            4 => too_wide(rng, &mut book.offers),
+            5 => steps::spoil(rng, &mut book.offers),
+            _ => spoil_offers(rng, book),
         }
     }
+}
+
+/// A step that its byte does not hold, though its low byte may be one that fits.
+fn too_wide(rng: &mut Rng, offers: &mut [Offer]) {
+    let row = rng.index(offers.len());
+    let step = offers[row].step;
+    offers[row].step = rng.pick(&[256, 256 + step, 65_536 + step, (1 << 31) + step, u32::MAX]);
 }
 
 /// More rows than a book may have: some of them over again.

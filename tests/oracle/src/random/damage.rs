@@ -26,7 +26,7 @@ fn damage(rng: &mut Rng, bytes: &mut [u8]) {
     let used = offers_told(bytes).saturating_sub(PLACES * at.max(1) - PLACES).clamp(1, PLACES);
     let last = bytes.len() - BLOCK;
     let block = &mut bytes[BLOCK * at..][..BLOCK];
-    match rng.draw() % 13 {
+    match rng.draw() % 14 {
         0 => alter(rng, &mut block[..CHECKED]),
         1 => alter(rng, &mut block[CHECKED..]),
         2 => alter(rng, &mut block[..34]),
@@ -35,8 +35,8 @@ fn damage(rng: &mut Rng, bytes: &mut [u8]) {
         5 => count_wrong(rng, &mut bytes[..BLOCK], 24),
         6 if at > 0 => count_wrong(rng, block, 6),
         7 => block[..4].copy_from_slice(rng.pick(&[b"RPMB", b"OFRS", b"BIDS", b"EVTS", b"rpmb", b"SRFO"])),
-        8 => make::put(block, 4, 2, rng.pick(&[0, 1, 2, 3, 41, 256, 257])),
-        9 if at > 0 => {
+        8 => make::put(block, 4, 2, rng.pick(&[0, 1, 2, 3, 41, 256, 257, 258])),
+        9 | 13 if at > 0 => {
             let place = FIRST_PLACE + PLACE * rng.index(used);
             spoil_place(rng, &mut block[place..place + PLACE]);
         }
@@ -111,12 +111,12 @@ fn other_marks(rng: &mut Rng, block: &mut [u8]) {
     }
 }
 
-/// A place: marks, the bytes set aside for steps and events, or the byte behind them.
+/// A place: marks, the step, which in edition 1 is zero, the byte set aside for events, or the byte behind them.
 fn spoil_place(rng: &mut Rng, place: &mut [u8]) {
-    match rng.draw() % 5 {
+    match rng.draw() % 6 {
         0 | 1 => place[28] ^= 1 << rng.index(3),
         2 => place[28] ^= 1 << rng.index(8),
-        3 => place[rng.pick(&[29, 30, 31])] = rng.pick(&[1, 2, 3, 255]),
+        3 | 4 => place[rng.pick(&[29, 29, 30, 31])] = rng.pick(&[0, 1, 2, 3, 11, 255]),
         _ => alter(rng, &mut place[..28]),
     }
 }

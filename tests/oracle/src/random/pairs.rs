@@ -1,11 +1,11 @@
 //! A second book beside a first: the same but for its losers, or nearly so.
 
-use super::Rng;
-use crate::book::{self, Offer, Parameters, MOST_OFFERS};
+use super::{steps, Rng};
+use crate::book::{self, Book, Offer, Parameters, MOST_OFFERS};
 use crate::{clear, make, Outcome};
 
-/// A book beside another. In most pairs offers above the first's price come, go, move or change; in half of them something else
-/// differs too, or the books have nothing to do with each other.
+/// A book beside another. In most pairs offers above the first's price come, go, move or change, and in some the edition; in half
+/// of them something else differs too, or the books have nothing to do with each other.
 pub fn beside(rng: &mut Rng, first: &[u8]) -> Vec<u8> {
     let Ok(read) = book::read(first) else { return super::book(rng).1 };
     let price = match clear(first, MOST_OFFERS, MOST_OFFERS) {
@@ -13,9 +13,12 @@ pub fn beside(rng: &mut Rng, first: &[u8]) -> Vec<u8> {
         Outcome::Refused { .. } => None,
     };
     let price = price.unwrap_or_else(|| rng.between32(0, 1_000_000));
-    let (mut parameters, mut offers) = (read.parameters, read.offers);
+    let Book { mut edition, mut parameters, mut offers } = read;
     for _ in 0..rng.between(0, 6) {
-        change_losers(rng, price, &mut offers);
+        change_losers(rng, price, edition, &mut offers);
+    }
+    if rng.percent(25) && offers.iter().all(|offer| offer.step == 1) {
+        edition = 3 - edition;
     }
     match rng.draw() % 20 {
         0..=9 => {}
@@ -23,33 +26,51 @@ pub fn beside(rng: &mut Rng, first: &[u8]) -> Vec<u8> {
         11 | 12 => change_parameters(rng, &mut parameters),
         _ => change_shared(rng, price, &mut offers),
     }
-    make::book(&parameters, &offers)
+    make::bytes(&Book { edition, parameters, offers })
 }
 
 fn rows(offers: &[Offer], holds: impl Fn(u32) -> bool) -> Vec<usize> {
     (0..offers.len()).filter(|&row| offers[row].price.is_some_and(&holds)).collect()
 }
 
-/// One offer above the price comes, goes, moves or changes.
-fn change_losers(rng: &mut Rng, price: u32, offers: &mut Vec<Offer>) {
-    let losers = rows(offers, |asked| asked > price);
-    match rng.draw() % 4 {
+/// One offer above the price comes, goes, moves or changes: a resource of one step, or the last step of one.
+fn change_losers(rng: &mut Rng, price: u32, edition: u32, offers: &mut Vec<Offer>) {
+    let mut losers = rows(offers, |asked| asked > price);
+    losers.retain(|&row| steps::is_last(offers, row));
+    match rng.draw() % 5 {
         0 | 1 if offers.len() < MOST_OFFERS && price < 1_000_000 => {
             let one = offer(rng, offers, (price + 1, 1_000_000));
-            offers.insert(rng.index(offers.len() + 1), one);
+            offers.insert(steps::between(rng, offers), one);
         }
         2 if !losers.is_empty() => {
             let one = offers.remove(rng.pick(&losers));
-            if rng.percent(60) {
-                offers.insert(rng.index(offers.len() + 1), one);
+            if one.step == 1 && rng.percent(60) {
+                offers.insert(steps::between(rng, offers), one);
             }
         }
+        3 if edition == 2 && offers.len() < MOST_OFFERS && price < 1_000_000 => add_step(rng, price, offers),
         _ if !losers.is_empty() => {
             let row = rng.pick(&losers);
-            offers[row] = Offer { resource: offers[row].resource, ..offer(rng, offers, (price + 1, 1_000_000)) };
+            let Offer { resource, step, price: asked, .. } = offers[row];
+            let least = asked.map_or(0, |asked| asked.min(1_000_000));
+            let one = Offer { resource, step, ..offer(rng, offers, (least, 1_000_000)) };
+            offers[row] = Offer { block: one.block.filter(|_| step == 1), ..one };
         }
         _ => {}
     }
+}
+
+/// One step more of a resource, above the price.
+fn add_step(rng: &mut Rng, price: u32, offers: &mut Vec<Offer>) {
+    let last: Vec<usize> = (0..offers.len()).filter(|&row| offers[row].step < 10 && steps::is_last(offers, row)).collect();
+    if last.is_empty() {
+        return;
+    }
+    let row = rng.pick(&last);
+    let Offer { resource, step, price: asked, .. } = offers[row];
+    let least = asked.unwrap_or(0).max(price + 1).min(1_000_000);
+    let one = Offer { resource, step: step + 1, block: None, ..offer(rng, offers, (least, 1_000_000)) };
+    offers.insert(row + 1, one);
 }
 
 /// An offer with a price in a range, and a resource number that no other has.
@@ -68,6 +89,7 @@ fn offer(rng: &mut Rng, offers: &[Offer], (least, most): (u32, u32)) -> Offer {
         quantity,
         block,
         stamp: rng.draw(),
+        step: 1,
     }
 }
 
@@ -80,7 +102,8 @@ fn change_shared(rng: &mut Rng, price: u32, offers: &mut Vec<Offer>) {
     }
     let among = if at.is_empty() || rng.percent(50) { &shared } else { &at };
     let row = rng.pick(among);
-    match rng.draw() % 10 {
+    match rng.draw() % 11 {
+        10 => offers[row].step = offers[row].step % 10 + 1,
         0 => offers[row].seller ^= 1 << 20,
         1 => offers[row].stamp ^= 1,
         2 => offers[row].quantity = offers[row].quantity % 200_000 + 1,

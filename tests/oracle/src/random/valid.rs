@@ -1,22 +1,25 @@
 //! Valid books: ties at few prices, prices at and beside the curve's points, sums that meet them, extreme parameters.
 
 use super::columns::{blocks, prices, quantities, resources, stamps};
-use super::Rng;
-use crate::book::{Offer, Parameters};
+use super::{steps, Rng};
+use crate::book::{Book, Offer, Parameters};
 use crate::curve::Point;
 use crate::make;
 
 /// A book that clears, given long enough buffers.
 pub fn book(rng: &mut Rng) -> Vec<u8> {
-    let (parameters, offers) = values(rng);
-    make::book(&parameters, &offers)
+    make::bytes(&values(rng))
 }
 
-/// The parameters and the offers of a valid book.
-pub fn values(rng: &mut Rng) -> (Parameters, Vec<Offer>) {
+/// What a valid book says. Those of edition 2 have runs of steps.
+pub fn values(rng: &mut Rng) -> Book {
     let parameters = parameters(rng);
-    let offers = offers(rng, &parameters.curve());
-    (parameters, offers)
+    let mut offers = offers(rng, &parameters.curve());
+    let edition = rng.pick(&[1, 2]);
+    if edition == 2 {
+        steps::in_runs(rng, &mut offers);
+    }
+    Book { edition, parameters, offers }
 }
 
 fn parameters(rng: &mut Rng) -> Parameters {
@@ -68,7 +71,7 @@ fn number_of_offers(rng: &mut Rng) -> usize {
         13..=15 => (15 * rng.between(1, 6) + rng.between(0, 2)) - 1,
         16..=17 => rng.between(21, 200),
         18 => rng.between(201, 600),
-        _ => rng.between(598, 600),
+        _ => rng.pick(&[598, 599, 600, 600]),
     };
     number as usize
 }
@@ -88,6 +91,7 @@ fn offers(rng: &mut Rng, points: &[Point; 3]) -> Vec<Offer> {
             quantity: quantities[at],
             block: blocks[at],
             stamp: stamps[at],
+            step: 1,
         })
         .collect();
     if rng.percent(70) {

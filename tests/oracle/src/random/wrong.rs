@@ -1,20 +1,29 @@
 //! Wrong books: faulty values, and bytes that never were a book.
 
-use super::{valid, Rng};
-use crate::book::{Offer, Parameters, BLOCK};
+use super::{steps, valid, Rng};
+use crate::book::{Book, Offer, Parameters, BLOCK};
 use crate::make;
 
-/// A book with one to three values missing, out of range or repeated.
+/// A book with one to three values missing, out of range or repeated, or with steps that break their rules.
 pub fn faulty(rng: &mut Rng) -> Vec<u8> {
-    let (mut parameters, mut offers) = valid::values(rng);
+    let mut book = valid::values(rng);
     for _ in 0..rng.pick(&[1, 1, 2, 3]) {
-        if offers.is_empty() || rng.percent(40) {
-            spoil_parameter(rng, &mut parameters);
+        if book.offers.is_empty() || rng.percent(30) {
+            spoil_parameter(rng, &mut book.parameters);
         } else {
-            spoil_row(rng, &mut offers);
+            spoil_offers(rng, &mut book);
         }
     }
-    make::book(&parameters, &offers)
+    make::bytes(&book)
+}
+
+/// A row spoiled; in edition 2 half of the time its step or its place among the steps of its resource.
+pub(super) fn spoil_offers(rng: &mut Rng, book: &mut Book) {
+    if book.edition == 2 && rng.percent(50) {
+        steps::spoil(rng, &mut book.offers);
+    } else {
+        spoil_row(rng, &mut book.offers);
+    }
 }
 
 pub(super) fn spoil_parameter(rng: &mut Rng, p: &mut Parameters) {
@@ -36,7 +45,7 @@ pub(super) fn spoil_parameter(rng: &mut Rng, p: &mut Parameters) {
     }
 }
 
-pub(super) fn spoil_row(rng: &mut Rng, offers: &mut [Offer]) {
+fn spoil_row(rng: &mut Rng, offers: &mut [Offer]) {
     let other = rng.pick(offers).resource;
     let row = rng.index(offers.len());
     let offer = &mut offers[row];
@@ -63,9 +72,10 @@ pub fn stray(rng: &mut Rng) -> Vec<u8> {
     let most = rng.pick(&[0, 1, 255]);
     bytes.iter_mut().for_each(|byte| *byte = rng.between(0, most) as u8);
     if rng.percent(50) {
+        let edition = rng.pick(&[1, 2]);
         for (block, at) in bytes.chunks_exact_mut(BLOCK).zip(0..) {
             block[..4].copy_from_slice(if at == 0 { b"RPMB" } else { b"OFRS" });
-            make::put(block, 4, 2, if at == 0 { 1 } else { at });
+            make::put(block, 4, 2, if at == 0 { edition } else { at });
         }
         make::seal_all(&mut bytes);
     }

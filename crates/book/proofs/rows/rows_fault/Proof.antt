@@ -22,11 +22,14 @@ slice-aggregate-read-rows-4 c = search needs
 slice-aggregate-read-rows-5 : tie.Need-slice-aggregate-read-rows-5
 slice-aggregate-read-rows-5 c = search needs
 
+slice-aggregate-read-rows-6 : tie.Need-slice-aggregate-read-rows-6
+slice-aggregate-read-rows-6 c = search needs
+
 read-rows-requires : tie.Need-read-rows-requires
-read-rows-requires c κs = search needs
+read-rows-requires c κs = (c .before .before .before .before .before .before .before .pre, search needs)
 
 returns : tie.Need-returns
-returns c = c .before .before .before .before .before .read-rows .ensures .found ∙ ap (rowsFault _ _) (length-rowOffers _ _ _)
+returns c = c .before .before .before .before .before .before .read-rows .ensures .found ∙ ap (rowsFault _ _ _) (length-rowOffers _ _ _ _)
 
 pub rows-fault-spec : {M : Type 1} → statement M
 rows-fault-spec =
@@ -37,5 +40,6 @@ rows-fault-spec =
     slice-aggregate-read-rows-3
     slice-aggregate-read-rows-4
     slice-aggregate-read-rows-5
+    slice-aggregate-read-rows-6
     read-rows-requires
     returns)

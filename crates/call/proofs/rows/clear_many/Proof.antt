@@ -21,10 +21,13 @@ slice-aggregate-clear-rows-4 c = search needs
 slice-aggregate-clear-rows-5 : tie.Need-slice-aggregate-clear-rows-5
 slice-aggregate-clear-rows-5 c = search needs
 
+slice-aggregate-clear-rows-6 : tie.Need-slice-aggregate-clear-rows-6
+slice-aggregate-clear-rows-6 c = search needs
+
 clear-rows-requires : tie.Need-clear-rows-requires
 clear-rows-requires c κs =
-    let start = c .before .before .before .before .before .before .before .before .before .before in
-    (start .pre, record { room = 600; enough = opened-inside _ _ _ (start .pre) .few; zeros = refl })
+    let start = c .before .before .before .before .before .before .before .before .before .before .before in
+    (start .pre, record { room = 600; enough = opened-inside _ _ _ _ (start .pre) .few; zeros = refl })
 
 same-length : tie.Need-same-length
 same-length c = search needs
@@ -44,6 +47,7 @@ clear-many-spec =
     slice-aggregate-clear-rows-3
     slice-aggregate-clear-rows-4
     slice-aggregate-clear-rows-5
+    slice-aggregate-clear-rows-6
     clear-rows-requires
     same-length
     same-length-2

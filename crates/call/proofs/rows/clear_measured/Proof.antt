@@ -22,14 +22,15 @@ returns c =
 enum-told : tie.Need-enum-told
 enum-told c = search needs
 
--- past the test the parameters and the number of rows have passed
+-- past the test the edition, the parameters and the number of rows have passed
 passed : (c : tie.After-enum-told) →
     let head = c .before .before .opened .result in
-    Opened (c .before .before .before .before .before .before .args .book .now) (head .parameters) (head .rows)
+    Opened (c .before .before .before .before .before .before .args .book .now) (head .edition) (head .parameters) (head .rows)
 passed c =
     let told = c .before .before .opened .ensures in
     record {
       passed = sym (told .fault) ∙ c .enum-told .given .1;
+      edition = told .edition;
       parameters = told .parameters;
       rows = told .rows;
     }
@@ -38,7 +39,7 @@ clear-none-requires : tie.Need-clear-none-requires
 clear-none-requires c κs = search needs
 
 returns-2 : tie.Need-returns-2
-returns-2 c = outcome-empty _ _ _ _ _ _ (passed (c .before .before .before)) (search needs) (c .clear-none .ensures)
+returns-2 c = outcome-empty _ _ _ _ _ _ _ (passed (c .before .before .before)) (search needs) (c .clear-none .ensures)
 
 clear-many-requires : tie.Need-clear-many-requires
 clear-many-requires c κs = passed (c .before .before .before .before)

@@ -1,4 +1,4 @@
--- `clear_rows` clears a book whose parameters and number of rows have passed.
+-- `clear_rows` clears a book whose edition, parameters and number of rows have passed.
 -- Assumes nothing.
 use mathlib.Core.Path.{_≡_, sym, _∙_}
 use native.Mathlib.Omega.{arith}
@@ -20,15 +20,15 @@ buffer-fault-requires c κs = search needs
 
 read-rows-requires : tie.Need-read-rows-requires
 read-rows-requires c κs =
-    let start = c .before .before .before .before .before .before .before .before .before .before .before .before .before .before in
-    (opened-inside _ _ _ (start .pre .0), blank-room _ _ (start .pre .1))
+    let start = c .before .before .before .before .before .before .before .before .before .before .before .before .before .before .before .before in
+    (opened-inside _ _ _ _ (start .pre .0), blank-room _ _ (start .pre .1))
 
 -- the function's entry, and where the rows are read, from where they are tested
 abbrev read : tie.After-and-then → tie.After-read-rows
-read c = c .before .before .before .before .before .before .before .before .before .before .before
+read c = c .before .before .before .before .before .before .before .before .before .before .before .before .before
 
 abbrev entry : tie.After-and-then → tie.Start
-entry c = read c .before .before .before .before .before .before .before .before .before .before .before .before .before .before .before
+entry c = read c .before .before .before .before .before .before .before .before .before .before .before .before .before .before .before .before .before
 
 and-then-requires : tie.Need-and-then-requires
 and-then-requires c κs = search needs
@@ -37,7 +37,7 @@ and-then-requires c κs = search needs
 fault : (c : tie.After-and-then) → let a = entry c .args in
     c .and-then .result ≡ callFault (a .book .now) (length (a .cleared .now)) (length (a .committed .now))
 fault c =
-    fault-rows _ _ _ (entry c .pre .0) _ _ _ _ _ (read c .read-rows .ensures .found) (read c .before .before .before .before .before .before .buffer-fault .ensures)
+    fault-rows _ _ _ _ (entry c .pre .0) _ _ _ _ _ (read c .read-rows .ensures .found) (read c .before .before .before .before .before .before .before .buffer-fault .ensures)
     (c .and-then .ensures)
 
 enum-known-number : tie.Need-enum-known-number
@@ -58,6 +58,9 @@ same-length-4 c = search needs
 same-length-5 : tie.Need-same-length-5
 same-length-5 c = search needs
 
+same-length-6 : tie.Need-same-length-6
+same-length-6 c = search needs
+
 returns : tie.Need-returns
 returns c = outcome-refused _ _ _ _ _ (sym (c .before .number .given .1) ∙ fault (c .before .before .before))
 
@@ -76,8 +79,8 @@ callable c = passed-callable _ _ _ (sym (passed c))
 -- the columns after the rows are read
 abbrev columns : tie.After-enum-told → Columns
 columns c =
-    let l = read (c .before .before) .read-rows .last .1 .1 .1 .1 in
-    columnsOf (l .0) (l .1 .0) (l .1 .1 .0) (l .1 .1 .1 .0) (l .1 .1 .1 .1 .0)
+    let l = read (c .before .before) .read-rows .last .1 .1 .1 .1 .1 in
+    columnsOf (l .0) (l .1 .0) (l .1 .1 .0) (l .1 .1 .1 .0) (l .1 .1 .1 .1 .0) (l .1 .1 .1 .1 .1 .0)
 
 -- what the book says stands in them
 stands : (c : tie.After-enum-told) → let a = entry (c .before .before) .args in
@@ -85,20 +88,17 @@ stands : (c : tie.After-enum-told) → let a = entry (c .before .before) .args i
 stands c =
     let tested = c .before .before in
     let found = read tested .read-rows in
-    opened-stands _ _ _ (entry tested .pre .0) _ (columns c) _ (callable c .accepted) (entry tested .pre .1) (found .ensures)
+    opened-stands _ _ _ _ (entry tested .pre .0) _ (columns c) _ (callable c .accepted) (entry tested .pre .1) (found .ensures)
     (andThen-left _ _ (sym (tested .and-then .ensures) ∙ c .enum-told .given .1))
 
 clearing-requires : tie.Need-clearing-requires
 clearing-requires c κs =
-    let told = c .before .before .before .before .before .before .before in
+    let told = c .before .before .before .before .before .before .before .before in
     let ok = callable told in
     let count = entry (told .before .before) .pre .0 .rows in (
       record { contents = _; stands = stands told },
       (omega (arith, count, ok .cleared-long), omega (arith, count, ok .committed-long)),
     )
-
-same-length-6 : tie.Need-same-length-6
-same-length-6 c = search needs
 
 same-length-7 : tie.Need-same-length-7
 same-length-7 c = search needs
@@ -118,10 +118,16 @@ same-length-11 c = search needs
 same-length-12 : tie.Need-same-length-12
 same-length-12 c = search needs
 
+same-length-13 : tie.Need-same-length-13
+same-length-13 c = search needs
+
+same-length-14 : tie.Need-same-length-14
+same-length-14 c = search needs
+
 returns-2 : tie.Need-returns-2
 returns-2 c =
     let sold = c .before .before .before .before in
-    let told = sold .before .before .before .before .before .before .before .before in
+    let told = sold .before .before .before .before .before .before .before .before .before in
     outcome-cleared _ _ _ _ _ _ (passed told) (sold .clearing .ensures _ (stands told))
 
 pub clear-rows-spec : {M : Type 1} → statement M
@@ -137,14 +143,16 @@ clear-rows-spec =
     same-length-3
     same-length-4
     same-length-5
+    same-length-6
     returns
     enum-told
     clearing-requires
-    same-length-6
     same-length-7
     same-length-8
     same-length-9
     same-length-10
     same-length-11
     same-length-12
+    same-length-13
+    same-length-14
     returns-2)

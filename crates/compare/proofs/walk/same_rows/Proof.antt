@@ -1,42 +1,22 @@
--- `same_rows` compares the offers that two rows' own bytes hold.
+-- `same_rows` compares the offers of two rows.
 -- Assumes nothing.
-use mathlib.Core.Path.{ap, ap₂, _∙_}
-use Rattle.values.specs.Place.{offerOf}
-use Rattle.layout.specs.Read.{rowOffer}
+use mathlib.Core.Path.{ap₂, _∙_}
 use Rattle.compare.specs.Same.{sameOffer}
 use borrow.Author.Needs.{needs}
 use Rattle.compare.proofs.walk.same_rows.Statement.{statement}
 use Rattle.compare.proofs.walk.same_rows.Tie as tie
 
-row-bytes-requires : tie.Need-row-bytes-requires
-row-bytes-requires c κs = search needs
+offer-at-requires : tie.Need-offer-at-requires
+offer-at-requires c κs = search needs
 
-offer-in-requires : tie.Need-offer-in-requires
-offer-in-requires c κs = search needs
-
-row-bytes-requires-2 : tie.Need-row-bytes-requires-2
-row-bytes-requires-2 c κs = search needs
-
-offer-in-requires-2 : tie.Need-offer-in-requires-2
-offer-in-requires-2 c κs = search needs
+offer-at-requires-2 : tie.Need-offer-at-requires-2
+offer-at-requires-2 c κs = search needs
 
 same-offer-requires : tie.Need-same-offer-requires
 same-offer-requires c κs = search needs
 
 returns : tie.Need-returns
-unfolding rowOffer
-returns c =
-    c .same-offer .ensures
-    ∙ ap₂ sameOffer (c .before .before .before .offer-in .ensures ∙ ap offerOf (c .before .before .before .before .row-bytes .ensures .0))
-    (c .before .offer-in2 .ensures ∙ ap offerOf (c .before .before .row-bytes2 .ensures .0))
+returns c = c .same-offer .ensures ∙ ap₂ sameOffer (c .before .before .offer-at .ensures) (c .before .offer-at2 .ensures)
 
 pub same-rows-spec : {M : Type 1} → statement M
-same-rows-spec =
-    tie.close
-    (tie.spec
-    row-bytes-requires
-    offer-in-requires
-    row-bytes-requires-2
-    offer-in-requires-2
-    same-offer-requires
-    returns)
+same-rows-spec = tie.close (tie.spec offer-at-requires offer-at-requires-2 same-offer-requires returns)

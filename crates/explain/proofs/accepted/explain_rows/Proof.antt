@@ -7,10 +7,10 @@ use Rattle.explain.proofs.accepted.explain_rows.Statement.{statement}
 use Rattle.explain.proofs.accepted.explain_rows.Tie as tie
 
 abbrev Inv-loop : tie.InvT-loop
-Inv-loop book price cleared committed n row₀ row = Unit {0}
+Inv-loop book edition price cleared committed n row₀ row = Unit {0}
 
 abbrev μ-loop : tie.MeasureT-loop
-μ-loop book price cleared committed n row₀ row = n - row
+μ-loop book edition price cleared committed n row₀ row = n - row
 
 rows-of-requires : tie.Need-rows-of-requires Inv-loop μ-loop
 rows-of-requires c κs = search needs
@@ -32,6 +32,9 @@ element-copy-out-explain-row-2 c = search needs
 
 explain-row-requires : tie.Need-explain-row-requires Inv-loop μ-loop
 explain-row-requires c κs = search needs
+
+explain-together-requires : tie.Need-explain-together-requires Inv-loop μ-loop
+explain-together-requires c κs = search needs
 
 returns : tie.Need-returns Inv-loop μ-loop
 returns c = search needs
@@ -61,6 +64,7 @@ explain-rows-spec =
     mul-explain-row-2
     element-copy-out-explain-row-2
     explain-row-requires
+    explain-together-requires
     returns
     add-row
     loop-less

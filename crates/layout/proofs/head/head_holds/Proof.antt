@@ -13,8 +13,8 @@ returns : tie.Need-returns
 unfolding headHolds
 returns c = search ways
 
-u16-at-requires : tie.Need-u16-at-requires
-u16-at-requires c κs = search needs
+edition-holds-requires : tie.Need-edition-holds-requires
+edition-holds-requires c κs = search needs
 
 returns-2 : tie.Need-returns-2
 unfolding headHolds
@@ -54,7 +54,7 @@ head-holds-spec =
     (tie.spec
     opens-with-requires
     returns
-    u16-at-requires
+    edition-holds-requires
     returns-2
     count-fits-requires
     returns-3

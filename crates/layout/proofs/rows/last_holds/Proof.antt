@@ -23,11 +23,11 @@ cast-if1-3 c = search needs
 add-if1-2 : tie.Need-add-if1-2
 add-if1-2 c = search needs
 
-bytes-hold-requires : tie.Need-bytes-hold-requires
-bytes-hold-requires c κs = search needs
+stepped-holds-requires : tie.Need-stepped-holds-requires
+stepped-holds-requires c κs = search needs
 
 returns : tie.Need-returns
-returns c = c .bytes-hold .ensures
+returns c = c .stepped-holds .ensures
 
 u32-at-requires : tie.Need-u32-at-requires
 u32-at-requires c κs = search needs
@@ -51,7 +51,7 @@ last-holds-spec =
     add-if1
     cast-if1-3
     add-if1-2
-    bytes-hold-requires
+    stepped-holds-requires
     returns
     u32-at-requires
     cast-result

@@ -13,14 +13,14 @@ offer-in-range-requires c κs = search needs
 
 returns : tie.Need-returns
 returns c =
-    offerFault-unpriced _ _ _ _ _
+    offerFault-unpriced _ _ _ _ _ _
     (c .before .before .is-given .ensures)
     (c .before .offer-in-range .ensures)
     (c .if1 .taken)
 
 returns-2 : tie.Need-returns-2
 returns-2 c =
-    offerFault-outside _ _ _ _ _
+    offerFault-outside _ _ _ _ _ _
     (c .before .before .before .is-given .ensures)
     (c .before .before .offer-in-range .ensures)
     (c .before .if1 .left)
@@ -28,7 +28,7 @@ returns-2 c =
 
 returns-3 : tie.Need-returns-3
 returns-3 c =
-    offerFault-passed _ _ _ _ _
+    offerFault-passed _ _ _ _ _ _
     (c .before .before .before .is-given .ensures)
     (c .before .before .offer-in-range .ensures)
     (c .before .if1 .left)

@@ -109,7 +109,7 @@ S = U.the-row
 blank : OzpRow
 blank =
     let none : OzpValue = record { kind = 0; number = 0 } in
-    record { stamp = 0; resource = 0; seller = 0; quantity = 0; price = none; block = none }
+    record { stamp = 0; resource = 0; seller = 0; quantity = 0; price = none; block = none; step = 0 }
 
 -- the function, with the types of its locals written out
 abbrev written : Fn

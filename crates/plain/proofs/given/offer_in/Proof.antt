@@ -20,6 +20,7 @@ returns c =
       quantity = row .quantity;
       block = c .value-in2 .ensures i;
       stamp = row .stamp;
+      step = row .step;
     }
 
 pub offer-in-spec : {M : Type 1} → statement M

@@ -5,7 +5,7 @@ use native.Mathlib.Omega.{arith}
 use Rattle.values.specs.declared.Verdict.the-variants.{Passed}
 use Rattle.layout.specs.Blocks.{blockOf}
 use Rattle.layout.specs.Read.{contentsOf}
-use Rattle.layout.proofs.Contained.{contents-parameters, contents-count}
+use Rattle.layout.proofs.Contained.{contents-edition, contents-parameters, contents-count}
 use Rattle.plain.specs.Listed.{readFault}
 use Rattle.plain.proofs.Listings.{passed-long, contents-refused, contents-passed}
 use borrow.Author.Needs.{needs}
@@ -34,6 +34,9 @@ passed : (c : tie.After-enum-told)
     → let a = c .before .before .before .before .args in readFault (a .book .now) (a .entries) ≡ Passed
 passed c = sym (c .before .before .read-fault .ensures) ∙ c .enum-told .given .1
 
+edition-requires : tie.Need-edition-requires
+edition-requires c κs = passed-long _ _ (passed c)
+
 sub-parameters-in : tie.Need-sub-parameters-in
 sub-parameters-in c = search needs
 
@@ -41,27 +44,31 @@ part-parameters-in-start : tie.Need-part-parameters-in-start
 part-parameters-in-start c = search needs
 
 part-parameters-in-end : tie.Need-part-parameters-in-end
-part-parameters-in-end c = omega (arith, passed-long _ _ (passed c))
+part-parameters-in-end c = omega (arith, passed-long _ _ (passed (c .before)))
 
 parameters-in-requires : tie.Need-parameters-in-requires
 parameters-in-requires c κs = search needs
 
 -- what was read of block 0 are the book's parameters
 read-own : (c : tie.After-parameters-in)
-    → c .parameters-in .result ≡ contentsOf (c .before .before .before .before .before .before .args .book .now) .parameters
+    → c .parameters-in .result ≡ contentsOf (c .before .before .before .before .before .before .before .args .book .now) .parameters
 unfolding blockOf
 read-own c = c .parameters-in .ensures ∙ contents-parameters _
 
 offer-count-requires : tie.Need-offer-count-requires
-offer-count-requires c κs = passed-long _ _ (passed (c .before .before))
+offer-count-requires c κs = passed-long _ _ (passed (c .before .before .before))
 
 contents-out-requires : tie.Need-contents-out-requires
 contents-out-requires c κs = search needs
 
 returns-2 : tie.Need-returns-2
 returns-2 c =
+    let told = c .before .before .before .before .before in
     c .contents-out .ensures
-    ∙ contents-passed _ _ (passed (c .before .before .before .before)) _ _ (read-own (c .before .before)) (c .before .offer-count .ensures .0 ∙ contents-count _)
+    ∙ contents-passed _ _ (passed told) _ _ _
+    (c .before .before .before .before .edition .ensures .0 ∙ contents-edition _)
+    (read-own (c .before .before))
+    (c .before .offer-count .ensures .0 ∙ contents-count _)
 
 pub contents-spec : {M : Type 1} → statement M
 contents-spec =
@@ -72,6 +79,7 @@ contents-spec =
     contents-refused-requires
     returns
     enum-told
+    edition-requires
     sub-parameters-in
     part-parameters-in-start
     part-parameters-in-end

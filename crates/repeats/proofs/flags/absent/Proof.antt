@@ -1,4 +1,4 @@
--- `limits::flags::absent` says whether a number stands in none of the rows. The loop's invariant: so it is of the rows passed.
+-- `absent` says whether a number stands in none of the rows. The loop's invariant: so it is of the rows passed.
 -- Assumes nothing.
 use mathlib.Core.Path.{_≡_, refl, sym, ap, ap₂, _∙_}
 use mathlib.Core.Bool.{_&&_, not}

@@ -1,4 +1,4 @@
--- `limits::flags::flag_of_product` meets its contract: a product of two numbers of 32 bits fits 64.
+-- `flag_of_product` meets its contract: a product of two numbers of 32 bits fits 64.
 -- Assumes nothing.
 use borrow.Author.Needs.{needs}
 use Rattle.laws.proofs.Products.{product-below}

@@ -22,12 +22,12 @@ use Rattle.sale.proofs.payment.clearing.Tie as tie
 
 region-curve-requires : tie.Need-region-curve-requires
 region-curve-requires c κs =
-    let s = c .before .before .before .before .before .before .before .pre .0 .stands in
+    let s = c .before .before .before .before .before .before .before .before .pre .0 .stands in
     subst Ranged (sym (s .own)) (s .clearable .parameters)
 
 sell-requires : tie.Need-sell-requires
 sell-requires c κs =
-    let start = c .before .before .before .before .before .before .before .before .before in
+    let start = c .before .before .before .before .before .before .before .before .before .before in
     let s = start .pre .0 .stands in (
       (c .before .region-curve .ensures .1, columns-rows _ _ _ _ s),
       (columns-ordered _ _ _ _ s, start .pre .1 .0),
@@ -35,14 +35,15 @@ sell-requires c κs =
 
 -- the function's entry, from the sale, the columns that it is lent, and the list of what each row clears
 abbrev entry : tie.After-sell → tie.Start
-entry c = c .before .before .before .before .before .before .before .before .before .before
+entry c = c .before .before .before .before .before .before .before .before .before .before .before
 
 abbrev columns : tie.After-sell → Columns
 columns c =
-    let a = entry c .args in columnsOf (a .prices .now) (a .quantities .now) (a .leasts .now) (a .resources .now) (a .stamps .now)
+    let a = entry c .args in
+    columnsOf (a .prices .now) (a .quantities .now) (a .leasts .now) (a .resources .now) (a .stamps .now) (a .steps .now)
 
 abbrev amounts : tie.After-sell → List ℕ
-amounts c = c .sell .last .1 .1 .1 .1 .1 .1 .0
+amounts c = c .sell .last .1 .1 .1 .1 .1 .1 .1 .0
 
 -- the sale is that of any contents in the columns
 sold : (c : tie.After-sell) (k : Contents) → Stands k (entry c .args .p) (entry c .args .n) (columns c)
@@ -85,8 +86,8 @@ add-daily c = omega (arith, daily-most c)
 days-of-requires : tie.Need-days-of-requires
 days-of-requires c κs = search needs
 
-mul-t23 : tie.Need-mul-t23
-mul-t23 c = record { fits = lt-of-le-of-lt (mul-le-mul (c .days-of .ensures .1) (daily-most (c .before))) (lit< tt) }
+mul-t24 : tie.Need-mul-t24
+mul-t24 c = record { fits = lt-of-le-of-lt (mul-le-mul (c .days-of .ensures .1) (daily-most (c .before))) (lit< tt) }
 
 same-length : tie.Need-same-length
 same-length c = search needs
@@ -124,7 +125,7 @@ clearing-spec =
     mills-of-requires-2
     add-daily
     days-of-requires
-    mul-t23
+    mul-t24
     same-length
     same-length-2
     returns)

@@ -10,7 +10,7 @@ cleared-level-requires c κs = search needs
 
 share-out-requires : tie.Need-share-out-requires
 share-out-requires c κs =
-    let start = c .before .before .before .before .before .before .before in (
+    let start = c .before .before .before .before .before .before .before .before in (
       (start .pre .0 .1, start .pre .1 .0),
       (start .pre .1 .1, stops-own _ _ _ (c .before .cleared-level .ensures .0)),
     )
@@ -23,10 +23,10 @@ same-length c = search needs
 
 returns : tie.Need-returns
 returns c =
-    let start = c .before .before .before .before .before .before .before .before .before .before .before in
+    let start = c .before .before .before .before .before .before .before .before .before .before .before .before in
     let a = start .args in
     let stops = c .before .before .before .before .before .cleared-level .ensures .0 in
-    sold-columns (a .prices .now) (a .quantities .now) (a .stamps .now) (a .resources .now)
+    sold-columns (a .prices .now) (a .quantities .now) (a .stamps .now) (a .resources .now) (a .steps .now)
     _ _ _ _ _ _ _ (start .pre .0 .1) (stops .total) (stops-own _ _ _ stops) (c .clearing-price .ensures)
     (c .before .before .before .share-out .ensures)
 

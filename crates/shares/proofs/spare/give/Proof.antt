@@ -48,7 +48,7 @@ slice-aggregate-award-4 c = search needs
 
 -- the function's entry, and where the stamps are halved, from where the rows are lined up
 abbrev entry : tie.After-line-up → tie.Start
-entry c = c .before .before .before .before .before .before .before .before .before .before .before .before .before .before
+entry c = c .before .before .before .before .before .before .before .before .before .before .before .before .before .before .before
 
 abbrev halved : tie.After-line-up → tie.After-halve
 halved c = c .before .before .before .before .before .before
@@ -61,7 +61,7 @@ abbrev standings : tie.After-line-up → List ℕ
 standings c = c .line-up .last .1 .1 .1 .1 .1 .1 .0
 
 abbrev tenths : tie.After-award → List ℕ
-tenths c = c .award .last .1 .1 .1 .1 .0
+tenths c = c .award .last .1 .1 .1 .1 .1 .0
 
 -- each row has its key
 keyed : (c : tie.After-line-up) (i : ℕ) → i < entry c .args .n
@@ -85,6 +85,7 @@ award-requires c κs =
       second = omega (arith, length-filling _ _ _ (halved up .halve .ensures .0), p .divides .rows .few);
       third = omega (arith, length-filling _ _ _ (halved up .halve .ensures .1), p .divides .rows .few);
       fourth = p .ordered .resources-long;
+      fifth = p .ordered .steps-long;
       standing = omega (arith, length-filling _ _ _ (up .line-up .ensures .1), p .divides .rows .few);
       few = p .divides .rows .few;
       fresh = λ i h. standing-most (atLevel up i) (getD (standings up) i 0) (stands up i h);
@@ -112,7 +113,7 @@ add-requires : tie.Need-add-requires
 add-requires c κs =
     let won = c .before .before .before in
     let up = won .before .before .before .before .before .before .before in
-    won-adds _ _ _ _ _ _ _ _ (entry up .pre) (highs up) (lows up) (keys up) (standings up) (tenths won) (won .award .ensures)
+    won-adds _ _ _ _ _ _ _ _ _ (entry up .pre) (highs up) (lows up) (keys up) (standings up) (tenths won) (won .award .ensures)
     (omega (arith, won .award .ensures .rows, award-requires (won .before) (won .award .lifetimes) .standing))
 
 same-length : tie.Need-same-length
@@ -123,7 +124,7 @@ returns c =
     let won = c .before .before .before .before .before .before in
     let up = won .before .before .before .before .before .before .before in
     let p = entry up .pre in
-    won-cleared _ _ _ _ _ _ _ _ p (highs up) (lows up) (keys up) (standings up) (tenths won) (won .award .ensures)
+    won-cleared _ _ _ _ _ _ _ _ _ p (highs up) (lows up) (keys up) (standings up) (tenths won) (won .award .ensures)
     (c .before .before .add .last .1 .1 .0)
     (halves up)
     (keyed up)

@@ -9,6 +9,9 @@ use Rattle.values.proofs.place.offer_in.Tie as tie
 shared-slice-read-marks : tie.Need-shared-slice-read-marks
 shared-slice-read-marks c = search needs
 
+shared-slice-read-number : tie.Need-shared-slice-read-number
+shared-slice-read-number c = search needs
+
 u32-at-requires : tie.Need-u32-at-requires
 u32-at-requires c κs = search needs
 
@@ -27,6 +30,9 @@ value-at-requires-2 c κs = search needs
 u64-at-requires : tie.Need-u64-at-requires
 u64-at-requires c κs = search needs
 
+step-of-requires : tie.Need-step-of-requires
+step-of-requires c κs = search needs
+
 returns : tie.Need-returns
 unfolding offerOf marked
 returns c = cc
@@ -36,10 +42,12 @@ offer-in-spec =
     tie.close
     (tie.spec
     shared-slice-read-marks
+    shared-slice-read-number
     u32-at-requires
     u32-at-requires-2
     value-at-requires
     u32-at-requires-3
     value-at-requires-2
     u64-at-requires
+    step-of-requires
     returns)

@@ -22,16 +22,20 @@ there c = omega (arith, c .if1 .taken, c .before .rows-of .ensures .0)
 row-bytes-requires : tie.Need-row-bytes-requires
 row-bytes-requires c κs = there-inside _ _ (there c)
 
+edition-requires : tie.Need-edition-requires
+edition-requires c κs = omega (arith, there-inside _ _ (there (c .before)))
+
 offer-in-requires : tie.Need-offer-in-requires
 offer-in-requires c κs = search needs
 
 returns : tie.Need-returns
 returns c =
-    let here = there (c .before .before) in
-    row-offered _ _ _ here (there-offer _ _ here (c .before .row-bytes .ensures .0) (c .offer-in .ensures))
+    let here = there (c .before .before .before) in
+    row-offered _ _ _ here
+    (there-offer _ _ here (c .before .edition .ensures .0) (c .before .before .row-bytes .ensures .0) (c .offer-in .ensures))
 
 returns-2 : tie.Need-returns-2
 returns-2 c = row-unread _ _ (c .before .rows-of .ensures .0) (c .if1 .left)
 
 pub offer-of-spec : {M : Type 1} → statement M
-offer-of-spec = tie.close (tie.spec rows-of-requires row-bytes-requires offer-in-requires returns returns-2)
+offer-of-spec = tie.close (tie.spec rows-of-requires row-bytes-requires edition-requires offer-in-requires returns returns-2)

@@ -32,12 +32,13 @@ returns-2 c = answer-before _ _ _ _ (sym (c .before .before .before .opened .ens
 enum-told-2 : tie.Need-enum-told-2
 enum-told-2 c = search needs
 
--- past the tests the parameters and the number of rows have passed
+-- past the tests the edition, the parameters and the number of rows have passed
 works-opened-requires : tie.Need-works-opened-requires
 works-opened-requires c κs =
     let told = c .before .before .opened .ensures in
     record {
       passed = sym (told .fault) ∙ c .enum-told2 .given .1;
+      edition = told .edition;
       parameters = told .parameters;
       rows = told .rows;
     }

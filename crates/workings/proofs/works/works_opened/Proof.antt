@@ -30,26 +30,29 @@ slice-aggregate-read-rows-4 c = search needs
 slice-aggregate-read-rows-5 : tie.Need-slice-aggregate-read-rows-5
 slice-aggregate-read-rows-5 c = search needs
 
+slice-aggregate-read-rows-6 : tie.Need-slice-aggregate-read-rows-6
+slice-aggregate-read-rows-6 c = search needs
+
 -- the columns of zeros have room for the rows
 blank : (s : tie.Start) → Blank (s .args .rows) (empty 600)
-blank s = record { room = 600; enough = opened-inside _ _ _ (s .pre) .few; zeros = refl }
+blank s = record { room = 600; enough = opened-inside _ _ _ _ (s .pre) .few; zeros = refl }
 
 read-rows-requires : tie.Need-read-rows-requires
 read-rows-requires c κs =
-    let start = c .before .before .before .before .before .before in
-    (opened-inside _ _ _ (start .pre), blank-room _ _ (blank start))
+    let start = c .before .before .before .before .before .before .before in
+    (opened-inside _ _ _ _ (start .pre), blank-room _ _ (blank start))
 
 -- the function's entry, from where the rows are read
 abbrev entry : tie.After-read-rows → tie.Start
-entry c = c .before .before .before .before .before .before .before
+entry c = c .before .before .before .before .before .before .before .before
 
 -- where the rows are read, from where they are tested
-abbrev read : tie.After-stamps2 → tie.After-read-rows
-read c = c .before .before .before .before .before
+abbrev read : tie.After-steps2 → tie.After-read-rows
+read c = c .before .before .before .before .before .before
 
 -- the rows decide
 fault : (c : tie.After-read-rows) → firstFault (entry c .args .book .now) ≡ c .read-rows .result
-fault c = first-rows _ _ _ _ (entry c .pre) (c .read-rows .ensures .found)
+fault c = first-rows _ _ _ _ _ (entry c .pre) (c .read-rows .ensures .found)
 
 enum-known-found : tie.Need-enum-known-found
 enum-known-found c = search needs
@@ -67,15 +70,15 @@ accepted c = fault (read (c .before .before)) ∙ c .enum-told .given .1
 -- the columns after the rows are read
 abbrev columns : tie.After-enum-told → Columns
 columns c =
-    let l = read (c .before .before) .read-rows .last .1 .1 .1 .1 in
-    columnsOf (l .0) (l .1 .0) (l .1 .1 .0) (l .1 .1 .1 .0) (l .1 .1 .1 .1 .0)
+    let l = read (c .before .before) .read-rows .last .1 .1 .1 .1 .1 in
+    columnsOf (l .0) (l .1 .0) (l .1 .1 .0) (l .1 .1 .1 .0) (l .1 .1 .1 .1 .0) (l .1 .1 .1 .1 .1 .0)
 
 -- what the book says stands in them
 stands : (c : tie.After-enum-told) → let a = entry (read (c .before .before)) .args in
     Stands (contentsOf (a .book .now)) (a .p) (a .rows) (columns c)
 stands c =
     let start = entry (read (c .before .before)) in
-    opened-stands _ _ _ (start .pre) _ (columns c) _ (accepted c) (blank start) (read (c .before .before) .read-rows .ensures)
+    opened-stands _ _ _ _ (start .pre) _ (columns c) _ (accepted c) (blank start) (read (c .before .before) .read-rows .ensures)
     (c .enum-told .given .1)
 
 slice-aggregate-works-at : tie.Need-slice-aggregate-works-at
@@ -103,6 +106,7 @@ works-opened-spec =
     slice-aggregate-read-rows-3
     slice-aggregate-read-rows-4
     slice-aggregate-read-rows-5
+    slice-aggregate-read-rows-6
     read-rows-requires
     enum-known-found
     returns

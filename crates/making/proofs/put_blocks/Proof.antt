@@ -1,0 +1,92 @@
+use mathlib.Core.Path.{ap, _∙_}
+use Rattle.making.proofs.Fields.{blocks-none, blocks-more}
+use mathlib.Core.Path.{_≡_}
+use Prim.Native.Nat.{_-_, _≤_}
+use lib.ListN.{length}
+use Rattle.making.specs.inner.Made.{blocksMade}
+use Rattle.layout.specs.Section.{blocksFor}
+use native.Mathlib.Omega.{arith}
+use borrow.Author.Needs.{needs}
+use Rattle.making.proofs.put_blocks.Statement.{statement}
+use Rattle.making.proofs.put_blocks.Tie as tie
+use Rattle.making.proofs.put_blocks.Reads as reads
+use Rattle.making.proofs.put_blocks.Lts as lts
+use Rattle.layout.proofs.section.blocks_for.Reads as blocks-for-reads
+use Rattle.layout.proofs.section.rows_here.Reads as rows-here-reads
+use Rattle.making.proofs.put_block.Reads as put-block-reads
+
+abbrev Inv-loop : tie.InvT-loop
+Inv-loop b₀ rows j₀ j-end b j =
+    (j-end ≡ blocksFor rows)
+    × (j ≤ j-end)
+    × (length b ≡ 20992)
+    × (b ≡ blocksMade b₀ rows j)
+
+abbrev μ-loop : tie.MeasureT-loop
+μ-loop b₀ rows j₀ j-end b j = j-end - j
+
+-- src/lib.rt:94:17
+blocks-for-requires : tie.Need-blocks-for-requires Inv-loop μ-loop
+blocks-for-requires c κs = search needs
+
+-- src/lib.rt:94:5
+loop-holds : tie.Need-loop-holds Inv-loop μ-loop
+loop-holds c = (c .blocks-for .ensures, omega arith, c .before .before .pre .0, blocks-none _ _)
+
+-- src/lib.rt:95:22
+add-put-block : tie.Need-add-put-block Inv-loop μ-loop
+add-put-block c = search needs
+
+-- src/lib.rt:95:29
+rows-here-requires : tie.Need-rows-here-requires Inv-loop μ-loop
+rows-here-requires c κs = search needs
+
+-- src/lib.rt:95:9
+put-block-requires : tie.Need-put-block-requires Inv-loop μ-loop
+put-block-requires c κs =
+    let l = c .before .before .before .loop .inv in
+    (omega (arith, l .2), omega arith, omega (arith, c .rows-here .ensures))
+
+-- src/lib.rt:94:9
+add-j : tie.Need-add-j Inv-loop μ-loop
+add-j c = search needs
+
+-- src/lib.rt:94:5
+loop-less : tie.Need-loop-less Inv-loop μ-loop
+loop-less c = search needs
+
+-- src/lib.rt:94:5
+loop-again : tie.Need-loop-again Inv-loop μ-loop
+loop-again c =
+    let s = c .before .before .before .before .before .before .before .before .before .args in
+    let l = c .before .before .before .before .before .before .loop in
+    (search needs, omega arith, search needs, blocks-more (s .b .now) (s .rows) (l .j) (l .inv .3) (c .before .before .before .rows-here .ensures) (c .before .before .put-block .ensures))
+
+-- src/lib.rt:90:1
+same-length : tie.Need-same-length Inv-loop μ-loop
+same-length c = search needs
+
+-- src/lib.rt:90:1
+returns : tie.Need-returns Inv-loop μ-loop
+returns c =
+    let s = c .before .before .before .before .args in
+    let l = c .before .loop in
+    let all : l .j ≡ blocksFor (s .rows) = omega arith in
+    l .inv .3 ∙ ap (blocksMade (s .b .now) (s .rows)) all
+
+pub put-blocks-spec : {M : Type 1} → statement M
+put-blocks-spec =
+    tie.close
+    (tie.spec
+    Inv-loop
+    μ-loop
+    blocks-for-requires
+    loop-holds
+    add-put-block
+    rows-here-requires
+    put-block-requires
+    add-j
+    loop-less
+    loop-again
+    same-length
+    returns)

@@ -1,0 +1,52 @@
+-- The book that is made around rows that stand in their places.
+--
+-- In order: a block sealed in its place; block 0; a block of rows, and all of them; the book.
+-- Assumes nothing.
+use Prim.Native.Nat.{ℕ, zero, suc, _+_, _*_}
+use mathlib.Core.List.{List, _++_}
+use lib.ListN.{take, drop}
+use Rattle.block.specs.Check.{firstSum, secondSum}
+use Rattle.values.specs.declared.head.Parameters.{Parameters}
+use Rattle.layout.specs.Section.{blocksFor, rowsHere}
+use Rattle.layout.specs.Layout.{rpmb}
+use Rattle.layout.specs.Form.{ofrs}
+use Rattle.encoding.specs.Numbers.{u16Bytes, valueBytes}
+use Rattle.encoding.specs.Encode.{headMarks}
+use Rattle.places.specs.inner.Put.{put}
+
+-- both sums of the block that starts at a place, in its last four bytes
+unfoldable pub sealedAt : List ℕ → ℕ → List ℕ
+sealedAt b at =
+    let s = take 512 (drop at b) in
+    put b (at + 508) (u16Bytes (firstSum s) ++ u16Bytes (secondSum s))
+
+-- C, E, F and R
+unfoldable pub fourValues : Parameters → List ℕ
+fourValues p = valueBytes (p .cost) ++ (valueBytes (p .offset) ++ (valueBytes (p .outage) ++ valueBytes (p .requirement)))
+
+-- the first 32 bytes of block 0
+unfoldable pub opening : ℕ → Parameters → ℕ → List ℕ
+opening edition p rows =
+    rpmb
+    ++ (u16Bytes edition
+    ++ (u16Bytes (p .year)
+    ++ (valueBytes (p .cost)
+    ++ (valueBytes (p .offset)
+    ++ (valueBytes (p .outage)
+    ++ (valueBytes (p .requirement)
+    ++ (u16Bytes rows
+    ++ (u16Bytes (headMarks p)
+    ++ valueBytes (p .margin)))))))))
+
+-- block number k, with so many rows
+unfoldable pub blockMade : List ℕ → ℕ → ℕ → List ℕ
+blockMade b k here = sealedAt (put b (k * 512) (ofrs ++ (u16Bytes k ++ u16Bytes here))) (k * 512)
+
+-- the first blocks of so many rows
+unfoldable pub blocksMade : List ℕ → ℕ → ℕ → List ℕ
+blocksMade b rows zero = b
+blocksMade b rows (suc j) = blockMade (blocksMade b rows j) (j + 1) (rowsHere rows j)
+
+-- the book, and behind it what stood there
+unfoldable pub bookMade : ℕ → Parameters → ℕ → List ℕ → List ℕ
+bookMade edition p rows b = blocksMade (sealedAt (put b 0 (opening edition p rows)) 0) rows (blocksFor rows)

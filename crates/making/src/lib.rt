@@ -1,0 +1,107 @@
+// The blocks of a book in which the rows stand: block 0, what opens each block of rows, and both sums of each block.
+use block::SIZE;
+use block::check::check_sums;
+use layout::OFRS;
+use layout::RPMB;
+use layout::section::blocks_for;
+use layout::section::rows_here;
+use places::bytes::put_letters;
+use places::bytes::put_u16;
+use places::bytes::put_value;
+use places::place::mark_of;
+use values::head::Parameters;
+ghost use mathlib.Core.Path.{_≡_};
+ghost use Prim.Native.Nat.{_+_, _*_, _≤_};
+ghost use lib.ListN.{length};
+ghost use Rattle.layout.specs.Section.{blocksFor};
+ghost use Rattle.encoding.specs.Encode.{headMarks};
+ghost use Rattle.places.specs.inner.Put.{put};
+ghost use Rattle.making.specs.inner.Made.{fourValues, opening, sealedAt, blockMade, blocksMade, bookMade};
+
+// Both sums in the last four bytes of the block that starts at a place.
+fn seal(b: &mut [u8], at: usize)
+    requires { ⌜ at + 512 ≤ length (now b) ⌝ }
+    ensures { λ _. ⌜ now (b .exit) ≡ sealedAt (now (b .entry)) at ⌝ }
+{
+    let sums = check_sums(&b[at..at + SIZE]);
+    put_u16(b, at + 508, sums.sum as u32);
+    put_u16(b, at + 510, sums.total as u32);
+}
+
+// The marks of block 0.
+fn head_marks(p: Parameters) -> u32
+    ensures { λ r. ⌜ (r ≡ headMarks p) × (r ≤ 31) ⌝ }
+{
+    let cost = p.cost;
+    let offset = p.offset;
+    let outage = p.outage;
+    let requirement = p.requirement;
+    let margin = p.margin;
+    mark_of(cost, 1)
+        + mark_of(offset, 2)
+        + mark_of(outage, 4)
+        + mark_of(requirement, 8)
+        + mark_of(margin, 16)
+}
+
+// C, E, F and R.
+fn put_values(b: &mut [u8], p: Parameters)
+    requires { ⌜ 512 ≤ length (now b) ⌝ }
+    ensures { λ _. ⌜ now (b .exit) ≡ put (now (b .entry)) 8 (fourValues p) ⌝ }
+{
+    let cost = p.cost;
+    let offset = p.offset;
+    let outage = p.outage;
+    let requirement = p.requirement;
+    put_value(b, 8, cost);
+    put_value(b, 12, offset);
+    put_value(b, 16, outage);
+    put_value(b, 20, requirement);
+}
+
+// What block 0 says, in its first 32 bytes.
+fn put_opening(b: &mut [u8], edition: u32, p: Parameters, rows: u32)
+    requires { ⌜ 512 ≤ length (now b) ⌝ }
+    ensures { λ _. ⌜ now (b .exit) ≡ put (now (b .entry)) 0 (opening edition p rows) ⌝ }
+{
+    let margin = p.margin;
+    put_letters(b, 0, &RPMB);
+    put_u16(b, 4, edition);
+    put_u16(b, 6, p.year);
+    put_values(b, p);
+    put_u16(b, 24, rows);
+    put_u16(b, 26, head_marks(p));
+    put_value(b, 28, margin);
+}
+
+// Block number k, in whose places stand so many rows.
+fn put_block(b: &mut [u8], k: usize, here: usize)
+    requires { ⌜ (k * 512 + 512 ≤ length (now b)) × (k ≤ 40) × (here ≤ 15) ⌝ }
+    ensures { λ _. ⌜ now (b .exit) ≡ blockMade (now (b .entry)) k here ⌝ }
+{
+    let at = k * SIZE;
+    put_letters(b, at, &OFRS);
+    put_u16(b, at + 4, k as u32);
+    put_u16(b, at + 6, here as u32);
+    seal(b, at);
+}
+
+// The blocks of so many rows.
+fn put_blocks(b: &mut [u8], rows: usize)
+    requires { ⌜ (length (now b) ≡ 20992) × (rows ≤ 600) ⌝ }
+    ensures { λ _. ⌜ now (b .exit) ≡ blocksMade (now (b .entry)) rows (blocksFor rows) ⌝ }
+{
+    for j in 0..blocks_for(rows) {
+        put_block(b, j + 1, rows_here(rows, j));
+    }
+}
+
+// The book whose rows stand in their places.
+pub fn put_book(b: &mut [u8], edition: u32, p: Parameters, rows: usize)
+    requires { ⌜ (length (now b) ≡ 20992) × (rows ≤ 600) ⌝ }
+    ensures { λ _. ⌜ now (b .exit) ≡ bookMade edition p rows (now (b .entry)) ⌝ }
+{
+    put_opening(b, edition, p, rows as u32);
+    seal(b, 0);
+    put_blocks(b, rows);
+}
