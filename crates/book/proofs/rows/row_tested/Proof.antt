@@ -6,7 +6,7 @@ use Rattle.values.specs.Place.{offerOf}
 use Rattle.values.specs.declared.place.Offer.{Offer}
 use Rattle.limits.specs.inner.Rows.{rowFault}
 use Rattle.limits.proofs.Tested.{rowFault-first}
-use Rattle.layout.specs.Blocks.{rowBytes}
+use Rattle.sections.specs.Blocks.{rowBytes}
 use Rattle.layout.specs.Read.{rowOffer}
 use Rattle.book.proofs.rows.row_tested.Statement.{statement}
 use Rattle.book.proofs.rows.row_tested.Tie as tie
