@@ -12,8 +12,8 @@ use lib.ListN.{length, take, drop, length-append, length-take, length-drop}
 use lib.Seq.{drop-drop}
 use Rattle.values.specs.Contents.{Contents, noOffer, offerAt}
 use Rattle.values.specs.declared.place.Offer.{Offer}
-use Rattle.layout.specs.Blocks.{blockOf, placeOf, rowBytes}
-use Rattle.layout.specs.Section.{blocksFor, rowsHere}
+use Rattle.sections.specs.Blocks.{blockOf, placeOf, rowBytes}
+use Rattle.sections.specs.Section.{blocksFor, rowsHere}
 use Rattle.encoding.specs.Encode.{placeBytes, rowBlocks, encode}
 use Rattle.encoding.proofs.Cuts.{part, part-here, part-past, getD-part}
 use Rattle.encoding.proofs.Sealed.{length-sealed}

@@ -14,11 +14,11 @@ use Rattle.values.specs.Contents.{Contents, offerAt}
 use Rattle.values.specs.declared.Verdict.the-variants.{Passed}
 use Rattle.values.specs.declared.head.Parameters.{Parameters}
 use Rattle.values.specs.declared.place.Offer.{Offer}
-use Rattle.layout.specs.Blocks.{blockCount, blockOf, placeOf, rowBytes}
-use Rattle.layout.specs.Section.{blocksFor, rowsHere, rowsHold}
+use Rattle.sections.specs.Blocks.{blockCount, blockOf, placeOf, rowBytes}
+use Rattle.sections.specs.Section.{blocksFor, rowsHere, rowsHold}
+use Rattle.sections.proofs.Parts.{block-length, row-length}
 use Rattle.layout.specs.Form.{editionOf, offerCount, offersSection, formFault}
 use Rattle.layout.specs.Read.{rowOffer, contentsOf}
-use Rattle.layout.proofs.Parts.{block-length, row-length}
 use Rattle.layout.proofs.Contained.{contents-edition, contents-parameters, contents-count, contents-offer}
 use Rattle.layout.proofs.Passing.{form-passed-head, form-passed-check, form-passed-block}
 use Rattle.layout.proofs.Passing.{form-passed-blocks, form-passed-row, form-passed-used}

@@ -18,8 +18,8 @@ use Rattle.values.specs.declared.Verdict.{Verdict}
 use Rattle.values.specs.declared.Verdict.the-variants.{Passed}
 use Rattle.values.specs.declared.place.Offer.{Offer}
 use Rattle.values.proofs.Firsts.{unless-true, andThen-next, first-zero, first-suc}
-use Rattle.layout.specs.Blocks.{blockCount, blockOf}
-use Rattle.layout.specs.Section.{blocksFor, rowsHere, rowsHold, blockFault, sectionFault}
+use Rattle.sections.specs.Blocks.{blockCount, blockOf}
+use Rattle.sections.specs.Section.{blocksFor, rowsHere, rowsHold, blockFault, sectionFault}
 use Rattle.layout.specs.Layout.{headHolds}
 use Rattle.layout.specs.Form.{lengthFault, checkFault, editionOf, offerCount, offersSection, layoutFault, formFault}
 use Rattle.encoding.specs.Encode.{encode}

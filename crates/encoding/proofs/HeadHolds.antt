@@ -15,9 +15,9 @@ use Rattle.block.specs.Bytes.{byte, u16At, u32At, opensWith, blank}
 use Rattle.values.specs.Head.{parametersOf, editionIn, offersIn}
 use Rattle.values.specs.declared.Value.{Value}
 use Rattle.values.specs.declared.head.Parameters.{Parameters}
-use Rattle.layout.specs.Section.{blocksFor}
+use Rattle.sections.specs.Section.{blocksFor}
+use Rattle.sections.proofs.Places.{blank-all}
 use Rattle.layout.specs.Layout.{rpmb, editionKnown, countFits, headMarksHold, headHolds}
-use Rattle.layout.proofs.Places.{blank-all}
 use Rattle.encoding.specs.Numbers.{u16Bytes, u32Bytes}
 use Rattle.encoding.specs.Widths.{ValueFits}
 use Rattle.encoding.specs.inner.Fits.{ParametersFit}

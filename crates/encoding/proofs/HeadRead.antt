@@ -17,8 +17,8 @@ use Rattle.block.specs.Bytes.{byte, u16At, u32At, opensWith, blank}
 use Rattle.block.specs.Check.{checkHolds}
 use Rattle.values.specs.Values.{marked, valueOf, absentIsZero}
 use Rattle.values.specs.Head.{parametersOf, editionIn, offersIn}
+use Rattle.sections.proofs.Places.{blank-at}
 use Rattle.layout.specs.Layout.{rpmb, editionKnown, countFits, headMarksHold, headHolds}
-use Rattle.layout.proofs.Places.{blank-at}
 use Rattle.encoding.specs.Numbers.{u16Bytes, valueBytes, markOf}
 use Rattle.encoding.specs.Encode.{headMarks, headBytes, sealed}
 use Rattle.encoding.proofs.Cuts.{part, part-onto}

@@ -13,8 +13,8 @@ use lib.Seq.{ext-getD}
 use borrow.Author.Tests.{eqb-true}
 use Rattle.laws.proofs.Cases.{by-order, and-left, and-right}
 use Rattle.block.specs.Bytes.{byte, opensWith, blank}
-use Rattle.layout.specs.Blocks.{blockOf, placeOf, rowBytes}
-use Rattle.layout.proofs.Places.{blank-at}
+use Rattle.sections.specs.Blocks.{blockOf, placeOf, rowBytes}
+use Rattle.sections.proofs.Places.{blank-at}
 use Rattle.encoding.specs.Numbers.{zeros}
 use Rattle.encoding.proofs.Cuts.{part, part-onto, length-part, getD-part}
 use Rattle.encoding.proofs.Digits.{Bytes, pair-at, length-zeros, byte-zeros}

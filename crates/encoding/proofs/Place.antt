@@ -14,7 +14,7 @@ use Rattle.laws.proofs.Cases.{and-true}
 use Rattle.block.specs.Bytes.{byte, u16At, u32At, u64At}
 use Rattle.values.specs.Place.{stepOf, offerOf}
 use Rattle.values.specs.declared.place.Offer.{Offer}
-use Rattle.layout.specs.Section.{lastHolds, usedHolds}
+use Rattle.sections.specs.Section.{lastHolds, usedHolds}
 use Rattle.layout.specs.Form.{offersLast}
 use Rattle.encoding.specs.Numbers.{u16Bytes, u32Bytes, u64Bytes, zeros}
 use Rattle.encoding.specs.Encode.{placeMarks, stepByte, placeBytes}

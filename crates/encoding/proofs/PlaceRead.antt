@@ -14,7 +14,7 @@ use Rattle.laws.proofs.Cases.{and-left, and-right}
 use Rattle.block.specs.Bytes.{byte, u32At}
 use Rattle.values.specs.Values.{marked, valueOf, absentIsZero}
 use Rattle.values.specs.Place.{stepOf, offerOf}
-use Rattle.layout.specs.Section.{lastHolds, usedHolds}
+use Rattle.sections.specs.Section.{lastHolds, usedHolds}
 use Rattle.layout.specs.Form.{offersLast}
 use Rattle.encoding.specs.Numbers.{zeros, valueBytes}
 use Rattle.encoding.specs.Encode.{placeMarks, stepByte, placeBytes}

@@ -15,7 +15,7 @@ use Rattle.values.specs.Values.{marked, valueOf}
 use Rattle.values.specs.Head.{parametersOf}
 use Rattle.values.specs.Place.{stepOf, offerOf}
 use Rattle.values.specs.declared.Verdict.the-variants.{Passed}
-use Rattle.layout.specs.Blocks.{blockOf, rowBytes}
+use Rattle.sections.specs.Blocks.{blockOf, rowBytes}
 use Rattle.layout.specs.Form.{editionOf, formFault}
 use Rattle.layout.specs.Read.{rowOffer, contentsOf}
 use Rattle.layout.proofs.Contained.{contents-edition, contents-parameters, contents-count, contents-offer}

@@ -12,7 +12,7 @@ use lib.ListN.{length, length-append}
 use Rattle.block.specs.Check.{checkHolds}
 use Rattle.values.specs.declared.place.Offer.{Offer}
 use Rattle.values.specs.Contents.{offerAt}
-use Rattle.layout.specs.Blocks.{placeOf}
+use Rattle.sections.specs.Blocks.{placeOf}
 use Rattle.layout.specs.Form.{ofrs}
 use Rattle.encoding.specs.Numbers.{u16Bytes, zeros}
 use Rattle.encoding.specs.Encode.{placeBytes, placesBytes, rowsBytes, sealed}

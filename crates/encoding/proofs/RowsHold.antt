@@ -16,11 +16,11 @@ use Rattle.laws.proofs.Everys.{every-all}
 use Rattle.block.specs.Bytes.{byte, u16At, opensWith, blank}
 use Rattle.values.specs.Contents.{offerAt}
 use Rattle.values.specs.declared.place.Offer.{Offer}
-use Rattle.layout.specs.Blocks.{placeOf}
-use Rattle.layout.specs.Section.{placesHold, rowsHold}
+use Rattle.sections.specs.Blocks.{placeOf}
+use Rattle.sections.specs.Section.{placesHold, rowsHold}
+use Rattle.sections.specs.inner.Section.{usedOnly}
+use Rattle.sections.proofs.Places.{blank-all, places-rest}
 use Rattle.layout.specs.Form.{ofrs, editionOf, offersLast, offersSection}
-use Rattle.layout.specs.inner.Section.{usedOnly}
-use Rattle.layout.proofs.Places.{blank-all, places-rest}
 use Rattle.encoding.specs.Numbers.{u16Bytes, zeros}
 use Rattle.encoding.specs.Encode.{placesBytes, rowsBytes}
 use Rattle.encoding.specs.Widths.{OfferFits}

@@ -16,11 +16,11 @@ use Rattle.block.specs.Bytes.{u16At, opensWith, blank}
 use Rattle.block.specs.Check.{checkHolds}
 use Rattle.values.specs.Contents.{offerAt}
 use Rattle.values.specs.declared.place.Offer.{Offer}
-use Rattle.layout.specs.Blocks.{placeOf}
-use Rattle.layout.specs.Section.{rowsHold}
+use Rattle.sections.specs.Blocks.{placeOf}
+use Rattle.sections.specs.Section.{rowsHold}
+use Rattle.sections.specs.inner.Section.{usedOnly}
+use Rattle.sections.proofs.Places.{places-rest}
 use Rattle.layout.specs.Form.{ofrs, editionOf, offersLast, offersSection}
-use Rattle.layout.specs.inner.Section.{usedOnly}
-use Rattle.layout.proofs.Places.{places-rest}
 use Rattle.encoding.specs.Numbers.{u16Bytes, zeros}
 use Rattle.encoding.specs.Encode.{placeBytes, placesBytes, rowsBytes, sealed}
 use Rattle.encoding.proofs.Cuts.{part, part-onto}

@@ -11,7 +11,7 @@ use Rattle.block.specs.Check.{firstSum, secondSum}
 use Rattle.values.specs.Contents.{Contents}
 use Rattle.values.specs.declared.head.Parameters.{Parameters}
 use Rattle.values.specs.declared.place.Offer.{Offer}
-use Rattle.layout.specs.Section.{blocksFor}
+use Rattle.sections.specs.Section.{blocksFor}
 use Rattle.layout.specs.Layout.{rpmb}
 use Rattle.layout.specs.Form.{ofrs}
 use Rattle.encoding.specs.Numbers.{u16Bytes, u32Bytes, u64Bytes, zeros, valueBytes, markOf}

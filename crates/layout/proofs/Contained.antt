@@ -12,7 +12,7 @@ use Rattle.values.specs.Head.{parametersOf}
 use Rattle.values.specs.Place.{offerOf}
 use Rattle.values.specs.Contents.{noOffer, offerAt}
 use Rattle.values.specs.declared.place.Offer.{Offer}
-use Rattle.layout.specs.Blocks.{blockOf, rowBytes}
+use Rattle.sections.specs.Blocks.{blockOf, rowBytes}
 use Rattle.layout.specs.Form.{editionOf, offerCount}
 use Rattle.layout.specs.Read.{rowOffer, rowOffers, contentsOf}
 

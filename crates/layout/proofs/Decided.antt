@@ -1,7 +1,7 @@
 -- The contract of each public function of this crate leaves one answer: any two that it allows for the same bytes coincide,
 -- wherever the books lie.
 --
--- In order: the first faults; the reader of rows; sections; editions.
+-- In order: the first faults; the reader of rows; the section of the offers; editions.
 -- Assumes nothing.
 use mathlib.Core.Path.{_≡_, sym, _∙_}
 use mathlib.Core.Bool.{Bool}
@@ -12,10 +12,9 @@ use denote.Ref.{RefT, now}
 use Rattle.laws.proofs.Answers.{same-answer}
 use Rattle.values.specs.Refusals.{andThen}
 use Rattle.values.specs.declared.Verdict.{Verdict}
-use Rattle.layout.specs.Blocks.{rowBytes}
-use Rattle.layout.specs.Section.{sectionFault}
+use Rattle.sections.specs.Blocks.{rowBytes}
+use Rattle.sections.specs.declared.section.Section.{Section}
 use Rattle.layout.specs.Form.{lengthFault, checkFault, layoutFault, formFault, editionOf, offerCount, offersSection, ownBytes}
-use Rattle.layout.specs.declared.section.Section.{Section}
 use Rattle.layout.proofs.form.lengths.Reads as lengths
 use Rattle.layout.proofs.form.blocks_fault.Reads as blocks-fault
 use Rattle.layout.proofs.form.form.Reads as form
@@ -24,10 +23,7 @@ use Rattle.layout.proofs.reader.edition.Reads as edition
 use Rattle.layout.proofs.reader.offer_count.Reads as offer-count
 use Rattle.layout.proofs.reader.row_bytes.Reads as row-bytes
 use Rattle.layout.proofs.reader.own_bytes.Reads as own-bytes
-use Rattle.layout.proofs.rows.section_fault.Reads as section-fault
-use Rattle.layout.proofs.section.blocks_for.Reads as blocks-for
-use Rattle.layout.proofs.section.rows_here.Reads as rows-here
-use Rattle.layout.proofs.section.offers_section.Reads as offers-section
+use Rattle.layout.proofs.offers.offers_section.Reads as offers-section
 
 module _ (κs : Lfts 1) (book other : RefT (List ℕ)) (same : now book ≡ now other) where
   -- the fault of the length, by the contract of `lengths`
@@ -69,27 +65,10 @@ module _ (κs : Lfts 1) (book other : RefT (List ℕ)) (same : now book ≡ now 
       → now r ≡ now s
   own-bytes-decided row r s = same-answer (λ b. ownBytes b row) same
 
-  -- the first fault of a section, by the contract of `section_fault`
-  pub section-fault-decided : (t : Section) (r s : Verdict)
-      → section-fault.Post κs (book, (t, tt)) r (book, (t, tt))
-      → section-fault.Post κs (other, (t, tt)) s (other, (t, tt))
-      → r ≡ s
-  section-fault-decided t r s = same-answer (λ b. sectionFault b t) same
-
   -- the section of the offers, by the contract of `offers_section`
   pub offers-section-decided : (r s : Section)
       → offers-section.Post κs (book, tt) r (book, tt) → offers-section.Post κs (other, tt) s (other, tt) → r ≡ s
   offers-section-decided r s = same-answer offersSection same
-
--- the number of blocks, by the contract of `blocks_for`
-pub blocks-for-decided : (rows r s : ℕ)
-    → blocks-for.Post tt (rows, tt) r (rows, tt) → blocks-for.Post tt (rows, tt) s (rows, tt) → r ≡ s
-blocks-for-decided rows r s e f = e ∙ sym f
-
--- the rows of a block, by the contract of `rows_here`
-pub rows-here-decided : (rows j r s : ℕ)
-    → rows-here.Post tt (rows, (j, tt)) r (rows, (j, tt)) → rows-here.Post tt (rows, (j, tt)) s (rows, (j, tt)) → r ≡ s
-rows-here-decided rows j r s e f = e ∙ sym f
 
 -- whether a book can have an edition, by the contract of `edition_known`
 pub edition-known-decided : (edition : ℕ) (r s : Bool)

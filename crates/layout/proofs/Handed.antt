@@ -7,9 +7,9 @@ use Prim.Native.Nat.{ℕ, _≤_, _<_}
 use lib.ListN.{length}
 use borrow.Author.Tests.{lt-ltb, le-ltb}
 use Rattle.values.specs.declared.Verdict.the-variants.{Passed, Refused}
-use Rattle.layout.specs.Blocks.{rowBytes}
+use Rattle.sections.specs.Blocks.{rowBytes}
+use Rattle.sections.proofs.Parts.{row-length}
 use Rattle.layout.specs.Form.{offerCount, formFault, ownBytes}
-use Rattle.layout.proofs.Parts.{row-length}
 use Rattle.layout.proofs.Passing.{form-passed-row}
 
 -- a book that is refused

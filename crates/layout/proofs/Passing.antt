@@ -1,43 +1,24 @@
 -- What it means for later code that a book passed refusals 1, 2 and 3.
 --
--- In order: a section whose blocks passed; each of the three passed; each block's check and layout; the book's length,
+-- In order: each of the three passed; each block's check and layout; the book's length,
 -- its edition, the number of its offers, and how they fit; where a row's block stands; that the row's own bytes are laid out as a used place.
 -- Assumes nothing.
 use mathlib.Core.Path.{_≡_}
 use mathlib.Core.Bool.{true}
 use mathlib.Core.List.{List}
-use Prim.Native.Nat.{ℕ, _+_, _*_, _/_, _%_, _≤_, _<_}
+use Prim.Native.Nat.{ℕ, _+_, _*_, _/_, _≤_, _<_}
 use native.Mathlib.Omega.{arith}
 use lib.ListN.{length}
 use Rattle.block.specs.Check.{checkHolds}
 use Rattle.values.specs.Refusals.{unless, andThen, wrongLayout}
 use Rattle.values.specs.declared.Verdict.the-variants.{Passed}
 use Rattle.values.proofs.Firsts.{unless-passed, andThen-left, andThen-right, first-at}
-use Rattle.layout.specs.Blocks.{blockCount, blockOf, rowBytes}
-use Rattle.layout.specs.Section.{blocksFor, rowsHere, usedHolds, rowsHold, blockFault, sectionFault}
+use Rattle.sections.specs.Blocks.{blockCount, blockOf, rowBytes}
+use Rattle.sections.specs.Section.{blocksFor, rowsHere, usedHolds, rowsHold, sectionFault}
+use Rattle.sections.proofs.Passing.{section-passed-block, section-passed-used}
 use Rattle.layout.specs.Layout.{editionKnown, headHolds}
 use Rattle.layout.specs.Form.{lengthFault, checkFault, editionOf, offerCount, offersLast, offersSection, layoutFault, formFault}
-use Rattle.layout.specs.declared.section.Section.{Section}
-use Rattle.layout.proofs.Holding.{LengthHolds, length-holds, CountHolds, head-edition, head-holds, rows-hold-used}
-
--- a section that passed: each of its blocks holds
-section-passed-block : (b : List ℕ) (t : Section) → sectionFault b t ≡ Passed → (j : ℕ) → j < blocksFor (t .rows)
-    → rowsHold t (blockOf b (t .first + j)) (t .number + j) (rowsHere (t .rows) j) ≡ true
-unfolding sectionFault blockFault
-section-passed-block b t passed j l =
-    unless-passed (rowsHold t (blockOf b (t .first + j)) (t .number + j) (rowsHere (t .rows) j)) 3 (t .number + j)
-    (first-at (blockFault b t) (blocksFor (t .rows)) j passed l)
-
--- and each row's own bytes are laid out as a used place
-pub section-passed-used : (b : List ℕ) (t : Section) → sectionFault b t ≡ Passed
-    → (row : ℕ) → row < t .rows → usedHolds (t .last) (rowBytes b (t .first) row) ≡ true
-unfolding rowBytes
-section-passed-used b t passed row l =
-    let j : ℕ = row / 15 in
-    rows-hold-used t (blockOf b (t .first + j)) (t .number + j) (rowsHere (t .rows) j) (row % 15)
-    (section-passed-block b t passed j (omega arith))
-    (omega arith)
-    (omega arith)
+use Rattle.layout.proofs.Holding.{LengthHolds, length-holds, CountHolds, head-edition, head-holds}
 
 module _ (b : List ℕ) (passed : formFault b ≡ Passed) where
   -- each of the three passed

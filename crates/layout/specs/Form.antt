@@ -10,11 +10,11 @@ use Rattle.values.specs.Head.{editionIn, offersIn}
 use Rattle.values.specs.Refusals.{wrongLength, wrongCheck, wrongLayout, unless, andThen, first}
 use Rattle.values.specs.declared.Verdict.{Verdict}
 use Rattle.values.specs.declared.Verdict.the-variants.{Passed, Refused}
-use Rattle.layout.specs.Blocks.{blockCount, blockOf, rowBytes}
-use Rattle.layout.specs.Section.{sectionFault}
+use Rattle.sections.specs.Blocks.{blockCount, blockOf, rowBytes}
+use Rattle.sections.specs.Section.{sectionFault}
+use Rattle.sections.specs.declared.section.LastBytes.{LastBytes}
+use Rattle.sections.specs.declared.section.Section.{Section}
 use Rattle.layout.specs.Layout.{headHolds}
-use Rattle.layout.specs.declared.section.LastBytes.{LastBytes}
-use Rattle.layout.specs.declared.section.Section.{Section}
 
 -- 1: the length
 unfoldable pub lengthFault : List ℕ → Verdict

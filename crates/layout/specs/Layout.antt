@@ -7,7 +7,7 @@ use lib.Dec.{eqb, leb, ltb}
 use Rattle.block.specs.Bytes.{byte, u32At, opensWith, blank}
 use Rattle.values.specs.Values.{marked, absentIsZero}
 use Rattle.values.specs.Head.{editionIn, offersIn}
-use Rattle.layout.specs.Section.{blocksFor}
+use Rattle.sections.specs.Section.{blocksFor}
 
 -- the four letters `RPMB`
 abbrev pub rpmb : List ℕ

@@ -1,5 +1,3 @@
-pub mod Blocks
-pub mod Section
 pub mod Layout
 pub mod Form
 pub mod Read

@@ -9,7 +9,7 @@ use Rattle.values.specs.Head.{parametersOf}
 use Rattle.values.specs.Place.{offerOf}
 use Rattle.values.specs.Contents.{Contents}
 use Rattle.values.specs.declared.place.Offer.{Offer}
-use Rattle.layout.specs.Blocks.{blockOf, rowBytes}
+use Rattle.sections.specs.Blocks.{blockOf, rowBytes}
 use Rattle.layout.specs.Form.{editionOf, offersSection}
 
 -- the offer of a row by the rule of an edition, where the first row stands in the block `first`, and the offers of n rows

@@ -1,2 +1,1 @@
-pub mod Section
 pub mod Read

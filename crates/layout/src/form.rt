@@ -2,16 +2,16 @@
 // a part of the book, lent to the test of it.
 use crate::MOST_BYTES;
 use crate::head::head_holds;
-use crate::rows::section_fault;
-use crate::section::offers_section;
+use crate::offers::offers_section;
 use block::SIZE;
 use block::check::check_holds;
+use sections::rows::section_fault;
 use values::Verdict;
 ghost use mathlib.Core.Path.{_≡_};
 ghost use Prim.Native.Nat.{_≤_};
 ghost use Rattle.values.specs.Refusals.{andThen};
 ghost use Rattle.values.specs.declared.Verdict.the-variants.{Passed};
-ghost use Rattle.layout.specs.Blocks.{blockCount};
+ghost use Rattle.sections.specs.Blocks.{blockCount};
 ghost use Rattle.layout.specs.Form.{lengthFault, checkFault, layoutFault, formFault};
 
 // 1: whole blocks, one at least, and no more bytes than the most.

@@ -1,10 +1,10 @@
 // The layout of block 0.
 use crate::MOST_OFFERS;
 use crate::RPMB;
-use crate::marks::absent_holds;
-use crate::section::blocks_for;
 use block::bytes::is_blank;
 use block::bytes::opens_with;
+use sections::marks::absent_holds;
+use sections::section::blocks_for;
 use values::head::edition_in;
 use values::head::offers_in;
 ghost use mathlib.Core.Path.{_≡_};

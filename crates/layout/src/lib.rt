@@ -2,10 +2,8 @@
 // bytes.
 pub mod form;
 pub mod head;
-pub mod marks;
+pub mod offers;
 pub mod reader;
-pub mod rows;
-pub mod section;
 
 // The four letters that open a book, and those that open an offer block.
 pub const RPMB: [u8; 4] = *b"RPMB";
@@ -16,10 +14,3 @@ pub const OFRS: [u8; 4] = *b"OFRS";
 pub const MOST_BYTES: usize = 20992;
 
 pub const MOST_OFFERS: u32 = 600;
-
-// A block of rows has fifteen places of 32 bytes, from byte 28 on.
-pub const PLACES: usize = 15;
-
-pub const PLACE_SIZE: usize = 32;
-
-pub const PLACES_FROM: usize = 28;

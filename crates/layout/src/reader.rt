@@ -1,16 +1,16 @@
 // The reader of rows: an offer's own 32 bytes, a part of the book that is lent, and no copy.
-use crate::PLACE_SIZE;
-use crate::PLACES;
-use crate::PLACES_FROM;
 use crate::form::form;
 use block::SIZE;
+use sections::PLACE_SIZE;
+use sections::PLACES;
+use sections::PLACES_FROM;
 use values::Verdict;
 use values::head::edition_in;
 use values::head::offers_in;
 ghost use mathlib.Core.Path.{_≡_};
 ghost use Prim.Native.Nat.{_+_, _*_, _/_, _≤_, _<_};
 ghost use lib.ListN.{length};
-ghost use Rattle.layout.specs.Blocks.{rowBytes};
+ghost use Rattle.sections.specs.Blocks.{rowBytes};
 ghost use Rattle.layout.specs.Form.{editionOf, offerCount, ownBytes};
 
 // The edition that a book states.

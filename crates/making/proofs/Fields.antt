@@ -12,7 +12,7 @@ use Rattle.block.specs.Check.{firstSum, secondSum}
 use Rattle.block.specs.Running.{blockSum, blockTotal}
 use Rattle.block.proofs.Steps.{blockSum-first, blockTotal-second}
 use Rattle.values.specs.declared.head.Parameters.{Parameters}
-use Rattle.layout.specs.Section.{rowsHere}
+use Rattle.sections.specs.Section.{rowsHere}
 use Rattle.layout.specs.Layout.{rpmb}
 use Rattle.layout.specs.Form.{ofrs}
 use Rattle.encoding.specs.Numbers.{u16Bytes, valueBytes}

@@ -17,7 +17,7 @@ use Rattle.values.specs.declared.Verdict.the-variants.{Passed, Refused}
 use Rattle.values.specs.declared.head.Parameters.{Parameters}
 use Rattle.values.specs.declared.place.Offer.{Offer}
 use Rattle.values.proofs.Firsts.{andThen-next, andThen-refused, andThen-left, andThen-right, unless-true, unless-false, unless-passed}
-use Rattle.layout.specs.Blocks.{rowBytes}
+use Rattle.sections.specs.Blocks.{rowBytes}
 use Rattle.layout.specs.Form.{formFault, editionOf, offerCount}
 use Rattle.layout.specs.Read.{contentsOf}
 use Rattle.layout.proofs.Passing.{form-passed-length, form-passed-row}

@@ -15,7 +15,7 @@ use Rattle.market.specs.declared.price.ClearingPrice.{ClearingPrice}
 use Rattle.market.specs.declared.price.ClearingPrice.the-variants.{Price, NoPrice}
 use Rattle.values.specs.Place.{offerOf}
 use Rattle.values.specs.declared.place.Offer.{Offer}
-use Rattle.layout.specs.Blocks.{rowBytes}
+use Rattle.sections.specs.Blocks.{rowBytes}
 use Rattle.layout.specs.Form.{editionOf}
 use Rattle.layout.specs.Read.{rowOffer}
 use Rattle.settle.specs.inner.Read.{quoted}

@@ -16,7 +16,7 @@ use Rattle.values.specs.declared.Verdict.{Verdict}
 use Rattle.values.specs.declared.Verdict.the-variants.{Passed, Refused}
 use Rattle.values.specs.declared.head.Parameters.{Parameters}
 use Rattle.values.specs.declared.place.Offer.{Offer}
-use Rattle.layout.specs.Blocks.{rowBytes}
+use Rattle.sections.specs.Blocks.{rowBytes}
 use Rattle.layout.specs.Form.{formFault, editionOf, offerCount}
 use Rattle.layout.specs.Read.{contentsOf}
 use Rattle.layout.proofs.Passing.{form-passed-row}

@@ -10,7 +10,7 @@ use native.Mathlib.Omega.{arith}
 use lib.ListN.{length, take, drop, length-append, List·getD-append}
 use lib.Seq.{drop-drop, take-at, drop-at}
 use Rattle.values.specs.declared.place.Offer.{Offer}
-use Rattle.layout.specs.Section.{blocksFor, rowsHere}
+use Rattle.sections.specs.Section.{blocksFor, rowsHere}
 use Rattle.layout.specs.Form.{ofrs}
 use Rattle.encoding.specs.Numbers.{u16Bytes, zeros}
 use Rattle.encoding.specs.Encode.{sealed, placesBytes, rowsBytes, rowBlocks}

@@ -11,7 +11,7 @@ use lib.Seq.{take-at}
 use Rattle.values.specs.Contents.{Contents}
 use Rattle.values.specs.declared.head.Parameters.{Parameters}
 use Rattle.values.specs.declared.place.Offer.{Offer}
-use Rattle.layout.specs.Section.{blocksFor}
+use Rattle.sections.specs.Section.{blocksFor}
 use Rattle.layout.specs.Layout.{rpmb}
 use Rattle.encoding.specs.Numbers.{u16Bytes, valueBytes, zeros}
 use Rattle.encoding.specs.Encode.{sealed, headMarks, headBytes, rowBlocks, encode}

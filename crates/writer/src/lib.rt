@@ -3,9 +3,9 @@
 use block::SIZE;
 use book::rows::rows_fault;
 use layout::head::edition_known;
-use layout::section::blocks_for;
 use limits::parameters::parameter_fault;
 use making::put_book;
+use sections::section::blocks_for;
 use values::Verdict;
 use values::head::Parameters;
 ghost use mathlib.Core.Path.{_≡_};

@@ -10,7 +10,7 @@ use Rattle.values.specs.Refusals.{andThen}
 use Rattle.values.specs.declared.Verdict.the-variants.{Passed}
 use Rattle.limits.specs.Parameters.{rangeFault}
 use Rattle.limits.specs.Given.{parametersFault}
-use Rattle.layout.specs.Blocks.{blockOf}
+use Rattle.sections.specs.Blocks.{blockOf}
 use Rattle.layout.specs.Form.{lengthFault}
 use Rattle.layout.specs.Read.{contentsOf}
 use Rattle.layout.proofs.Contained.{contents-count}

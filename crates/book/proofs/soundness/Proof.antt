@@ -6,7 +6,7 @@ use borrow.Author.Needs.{needs}
 use Rattle.values.specs.declared.Verdict.the-variants.{Passed}
 use Rattle.values.proofs.Firsts.{andThen-next, andThen-refused}
 use Rattle.limits.specs.Parameters.{rangeFault}
-use Rattle.layout.specs.Blocks.{blockOf}
+use Rattle.sections.specs.Blocks.{blockOf}
 use Rattle.layout.specs.Form.{formFault}
 use Rattle.layout.specs.Read.{contentsOf}
 use Rattle.layout.proofs.Passing.{form-passed-length}

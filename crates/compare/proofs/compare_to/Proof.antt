@@ -2,7 +2,7 @@
 -- Assumes nothing.
 use mathlib.Core.Path.{_≡_, ap₂, _∙_}
 use native.Mathlib.Omega.{arith}
-use Rattle.layout.specs.Blocks.{blockOf}
+use Rattle.sections.specs.Blocks.{blockOf}
 use Rattle.layout.specs.Read.{contentsOf}
 use Rattle.layout.proofs.Contained.{contents-parameters}
 use Rattle.compare.specs.Same.{fieldApart}

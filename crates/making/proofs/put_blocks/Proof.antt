@@ -4,15 +4,15 @@ use mathlib.Core.Path.{_≡_}
 use Prim.Native.Nat.{_-_, _≤_}
 use lib.ListN.{length}
 use Rattle.making.specs.inner.Made.{blocksMade}
-use Rattle.layout.specs.Section.{blocksFor}
+use Rattle.sections.specs.Section.{blocksFor}
 use native.Mathlib.Omega.{arith}
 use borrow.Author.Needs.{needs}
 use Rattle.making.proofs.put_blocks.Statement.{statement}
 use Rattle.making.proofs.put_blocks.Tie as tie
 use Rattle.making.proofs.put_blocks.Reads as reads
 use Rattle.making.proofs.put_blocks.Lts as lts
-use Rattle.layout.proofs.section.blocks_for.Reads as blocks-for-reads
-use Rattle.layout.proofs.section.rows_here.Reads as rows-here-reads
+use Rattle.sections.proofs.section.blocks_for.Reads as blocks-for-reads
+use Rattle.sections.proofs.section.rows_here.Reads as rows-here-reads
 use Rattle.making.proofs.put_block.Reads as put-block-reads
 
 abbrev Inv-loop : tie.InvT-loop

@@ -1,5 +1,5 @@
 use Rattle.making.specs.inner.Made.{sealedAt, blocksMade, bookMade}
-use Rattle.layout.specs.Section.{blocksFor}
+use Rattle.sections.specs.Section.{blocksFor}
 use Prim.Native.Nat.{ℕ}
 use mathlib.Core.List.{List}
 use mathlib.Core.Path.{ap, _∙_}

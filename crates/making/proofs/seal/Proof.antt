@@ -1,4 +1,4 @@
-use Rattle.layout.proofs.Parts.{part-from}
+use Rattle.sections.proofs.Parts.{part-from}
 use Rattle.making.proofs.Fields.{put-sums}
 use mathlib.Core.Path.{refl}
 use native.Mathlib.Omega.{arith}

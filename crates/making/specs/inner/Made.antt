@@ -7,7 +7,7 @@ use mathlib.Core.List.{List, _++_}
 use lib.ListN.{take, drop}
 use Rattle.block.specs.Check.{firstSum, secondSum}
 use Rattle.values.specs.declared.head.Parameters.{Parameters}
-use Rattle.layout.specs.Section.{blocksFor, rowsHere}
+use Rattle.sections.specs.Section.{blocksFor, rowsHere}
 use Rattle.layout.specs.Layout.{rpmb}
 use Rattle.layout.specs.Form.{ofrs}
 use Rattle.encoding.specs.Numbers.{u16Bytes, valueBytes}

@@ -10,8 +10,8 @@ use Rattle.values.specs.Contents.{offerAt}
 use Rattle.values.specs.Refusals.{unless, andThen, wrongLayout, tooManyRows, bufferBy}
 use Rattle.values.specs.declared.Verdict.{Verdict}
 use Rattle.values.specs.declared.head.Parameters.{Parameters}
+use Rattle.sections.specs.Section.{blocksFor}
 use Rattle.layout.specs.Layout.{editionKnown}
-use Rattle.layout.specs.Section.{blocksFor}
 use Rattle.layout.specs.Read.{rowOffers}
 use Rattle.limits.specs.Parameters.{rangeFault}
 use Rattle.limits.specs.Offers.{rowsFault}

@@ -10,7 +10,7 @@ use Rattle.values.specs.declared.place.Offer.{Offer}
 use Rattle.steps.specs.Steps.{stepFollows}
 use Rattle.limits.specs.inner.Rows.{pastFault}
 use Rattle.limits.proofs.Tested.{rowFault-first, rowFault-past}
-use Rattle.layout.specs.Blocks.{rowBytes}
+use Rattle.sections.specs.Blocks.{rowBytes}
 use Rattle.layout.specs.Read.{rowOffer}
 use Rattle.book.proofs.rows.row_tested.Statement.{statement}
 use Rattle.book.proofs.rows.row_tested.Tie as tie

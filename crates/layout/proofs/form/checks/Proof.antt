@@ -10,9 +10,9 @@ use Rattle.values.specs.Refusals.{first, unless, wrongCheck}
 use Rattle.values.specs.declared.Verdict.{Verdict}
 use Rattle.values.specs.declared.Verdict.the-variants.{Passed}
 use Rattle.values.proofs.Firsts.{unless-held, unless-failed, first-zero, first-on, first-refused}
-use Rattle.layout.specs.Blocks.{blockOf}
+use Rattle.sections.specs.Blocks.{blockOf}
+use Rattle.sections.proofs.Parts.{block-part}
 use Rattle.layout.specs.Form.{checkFault}
-use Rattle.layout.proofs.Parts.{block-part}
 use Rattle.layout.proofs.form.checks.Statement.{statement}
 use Rattle.layout.proofs.form.checks.Tie as tie
 

@@ -5,9 +5,9 @@ use native.Mathlib.Omega.{arith}
 use borrow.Author.Needs.{needs}
 use borrow.Author.Tests.{not-false}
 use Rattle.values.proofs.Firsts.{unless-held, unless-failed, andThen-next, andThen-refused}
-use Rattle.layout.specs.Blocks.{blockCount, blockOf}
-use Rattle.layout.specs.Section.{sectionFault}
-use Rattle.layout.specs.inner.Section.{Fits}
+use Rattle.sections.specs.Blocks.{blockCount, blockOf}
+use Rattle.sections.specs.Section.{sectionFault}
+use Rattle.sections.specs.inner.Section.{Fits}
 use Rattle.layout.specs.Layout.{headHolds}
 use Rattle.layout.specs.Form.{offerCount, layoutFault}
 use Rattle.layout.proofs.Holding.{CountHolds, head-holds}

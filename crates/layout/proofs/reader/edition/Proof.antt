@@ -1,7 +1,7 @@
 -- `edition` reads the number in block 0.
 -- Assumes nothing.
 use borrow.Author.Needs.{needs}
-use Rattle.layout.specs.Blocks.{blockOf}
+use Rattle.sections.specs.Blocks.{blockOf}
 use Rattle.layout.proofs.reader.edition.Statement.{statement}
 use Rattle.layout.proofs.reader.edition.Tie as tie
 

@@ -1,7 +1,7 @@
 -- `offer_count` reads the number in block 0.
 -- Assumes nothing.
 use borrow.Author.Needs.{needs}
-use Rattle.layout.specs.Blocks.{blockOf}
+use Rattle.sections.specs.Blocks.{blockOf}
 use Rattle.layout.proofs.reader.offer_count.Statement.{statement}
 use Rattle.layout.proofs.reader.offer_count.Tie as tie
 

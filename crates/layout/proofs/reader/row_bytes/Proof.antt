@@ -3,7 +3,7 @@
 use mathlib.Core.Path.{ap, _∙_}
 use lib.ListN.{length}
 use borrow.Author.Needs.{needs}
-use Rattle.layout.proofs.Parts.{row-part, row-length}
+use Rattle.sections.proofs.Parts.{row-part, row-length}
 use Rattle.layout.proofs.reader.row_bytes.Statement.{statement}
 use Rattle.layout.proofs.reader.row_bytes.Tie as tie
 
