@@ -1,8 +1,9 @@
 // The limit to hold a key to: who contends under it wins, and who contends over it does not.
 //
-// It is looked for between two numbers that close in on it. A look counts the contenders under a number between them, by
-// turns in proportion to the counts and at the middle: few looks where keys are spread evenly, and never many. Where equal
-// keys or gaps leave as many contenders between the two as before, the nearest key is looked at too.
+// It is looked for between two numbers that close in on it. A look counts the contenders under a number between them, in
+// proportion to the counts, and after one that left more than half of the numbers between them, at the middle: few looks where keys
+// are spread evenly, and never many. Where equal keys or gaps leave as many contenders between the two as before, the nearest key is
+// looked at too.
 use crate::count::under;
 use crate::keys::highest_to;
 use crate::keys::lowest_from;
@@ -156,8 +157,9 @@ pub(crate) fn threshold(keys: &[u32], standings: &[u32], n: usize, spare: u32) -
     let mut halve = false;
     while b.few < spare && 1 < b.high - b.low {
         let mid = probe(b, spare, halve);
-        b = turn(keys, standings, n, spare, b, mid);
-        halve = !halve;
+        let next = turn(keys, standings, n, spare, b, mid);
+        halve = !halve & ((b.high - b.low) / 2 < next.high - next.low);
+        b = next;
     }
     Parting {
         limit: b.low,

@@ -1,14 +1,15 @@
 -- The parts that the code cuts, from a start to an end, are the blocks, places and rows of the definitions; and how long
 -- they are.
 --
--- In order: a part cut from a start on; a block of a book, a place of a block, a row of a book; their lengths.
+-- In order: a part cut from a start on; a block of a book, a place of a block; a part of a part, a row of a book; their lengths.
 -- Assumes nothing.
-use mathlib.Core.Path.{_≡_, ap, _∙_}
+use mathlib.Core.Path.{_≡_, sym, ap, _∙_}
 use mathlib.Core.List.{List}
 use Prim.Native.Nat.{ℕ, _+_, _-_, _*_, _/_, _%_, _≤_, _<_}
 use native.Mathlib.Nat.{add-sub-cancel-left}
 use native.Mathlib.Omega.{arith}
 use lib.ListN.{length, take, drop, length-take, length-drop}
+use lib.Seq.{drop-at, take-add, take-take, drop-drop}
 use Rattle.layout.specs.Blocks.{blockOf, placeOf, rowBytes}
 
 -- a part of n bytes, from a start to an end
@@ -25,14 +26,32 @@ pub place-part : (s : List ℕ) (i : ℕ) → take (28 + i * 32 + 32 - (28 + i *
 unfolding placeOf
 place-part s i = part-from s (28 + i * 32) 32
 
--- a row's place of its block, as the code cuts both
-pub row-part : (b : List ℕ) (first row : ℕ) →
-    let from = (first + row / 15) * 512 in
+-- n bytes of a longer part
+part-inside : (s : List ℕ) (from at n m : ℕ) → at + n ≤ m → from + m ≤ length s
+    → take n (drop at (take m (drop from s))) ≡ take n (drop (from + at) s)
+part-inside s from at n m h l =
+    let part = drop from s in
+    let rest = m - at in
+    let longer : m ≡ at + rest = omega arith in
+    let before : length (take at part) ≡ at = simp (length-take, length-drop) (omega arith) in
+    ap (λ (k : ℕ). take n (drop at (take k part))) longer
+    ∙ ap (λ (t : List ℕ). take n (drop at t)) (take-add at rest part)
+    ∙ ap (take n) (drop-at (take at part) (take rest (drop at part)) at before)
+    ∙ take-take n rest (drop at part) (omega arith)
+    ∙ ap (take n) (drop-drop at from s)
+
+-- a row's place of its block, as the code cuts it: the block is as long as sixteen places
+pub row-part : (b : List ℕ) (first row : ℕ) → (first + row / 15) * 512 + 512 ≤ length b →
+    let from = first * 512 + 28 + (row + row / 15) * 32 in
+    take (from + 32 - from) (drop from b) ≡ rowBytes b first row
+unfolding rowBytes blockOf placeOf
+row-part b first row h =
+    let from = first * 512 + 28 + (row + row / 15) * 32 in
     let at = 28 + row % 15 * 32 in
-    take (at + 32 - at) (drop at (take (from + 512 - from) (drop from b))) ≡ rowBytes b first row
-unfolding rowBytes
-row-part b first row =
-    place-part _ (row % 15) ∙ ap (λ (s : List ℕ). placeOf s (row % 15)) (block-part b (first + row / 15))
+    let start : from ≡ (first + row / 15) * 512 + at = omega arith in
+    part-from b from 32
+    ∙ ap (λ (k : ℕ). take 32 (drop k b)) start
+    ∙ sym (part-inside b ((first + row / 15) * 512) at 32 512 (omega arith) h)
 
 part-length : (s : List ℕ) (at n : ℕ) → at + n ≤ length s → length (take n (drop at s)) ≡ n
 part-length s at n h = simp (length-take, length-drop) (omega arith)

@@ -29,15 +29,14 @@ pub fn offer_count(book: &[u8]) -> u32
     offers_in(&book[0..SIZE])
 }
 
-// A row's own bytes, chosen by block and place, in a book that has the row's block. The blocks of its section start at `first`.
+// A row's own bytes, in a book that has the row's block. The blocks of its section start at `first`; each is as long as sixteen
+// places and holds fifteen, so that there are as many places before a row's as rows and blocks.
 pub fn row_bytes(book: &[u8], first: usize, row: usize) -> &[u8]
     requires { ⌜ (first + row / 15) * 512 + 512 ≤ length (now book) ⌝ }
     ensures { λ r. ⌜ (now r ≡ rowBytes (now (book .entry)) first row) × (length (now r) ≡ 32) ⌝ }
 {
-    let from = (first + row / PLACES) * SIZE;
-    let block = &book[from..from + SIZE];
-    let at = PLACES_FROM + row % PLACES * PLACE_SIZE;
-    &block[at..at + PLACE_SIZE]
+    let from = first * SIZE + PLACES_FROM + (row + row / PLACES) * PLACE_SIZE;
+    &book[from..from + PLACE_SIZE]
 }
 
 // An offer's own bytes; for a row that isn't there, or a book refused by 1 to 3, an empty part.

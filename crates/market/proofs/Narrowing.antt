@@ -1,10 +1,10 @@
 -- Brackets of prices, and of the quantity at which the curve reaches a price.
 --
 -- In order: the whole range of prices; a quantity that is offered at a price, and that the curve buys at it, can be supplied;
--- the bracket over such a price, and one with a lower upper end; below the next price of an offer no more is offered than
--- below the bracket; a quantity at which the curve asks less than the price, and where both ends meet.
+-- the bracket over such a price; below the next price of an offer no more is offered than below the bracket, so that it can be
+-- drawn in; a quantity at which the curve asks less than the price, and where both ends meet.
 -- Assumes nothing.
-use mathlib.Core.Path.{_≡_, sym, ap, subst, _∙_}
+use mathlib.Core.Path.{_≡_, sym, subst, _∙_}
 use mathlib.Core.List.{List}
 use Prim.Native.Nat.{ℕ, suc, _+_, _-_, _≤_, _<_}
 use native.Mathlib.Nat.{le-antisymm, le-trans}
@@ -17,7 +17,7 @@ use Rattle.laws.proofs.Where.{sumWhere-same}
 use Rattle.auction.specs.Offers.{Offers, Demand, supply, supplyBelow}
 use Rattle.auction.proofs.Supply.{supply-mono, supplyBelow-zero, supplyBelow-suc}
 use Rattle.market.specs.inner.Rows.{listed}
-use Rattle.market.specs.inner.Bracket.{Under, Lowered, NoneBefore, Reaches}
+use Rattle.market.specs.inner.Bracket.{Under, NoneBefore, DrawnIn, Reaches}
 use Rattle.market.specs.declared.bracket.PriceBracket.{PriceBracket}
 
 -- below the price 0 nothing is offered, and nothing can be supplied
@@ -44,17 +44,6 @@ pub under-over : (d : Demand) (o : Offers) (b : PriceBracket) (price s : ℕ) �
 under-over d o b price s h l e w m =
     record { low = omega arith; high = h; below = rw (add-one, supplyBelow-suc) e; within = w; supplied = m }
 
--- with a lower upper end
-pub under-lowered : (d : Demand) (o : Offers) (b r : PriceBracket) → Under d o b → Lowered b r → Under d o r
-under-lowered d o b r u l =
-    record {
-      low = rw (l .from) (u .low);
-      high = le-trans (l .less) (u .high);
-      below = l .below ∙ u .below ∙ ap (supplyBelow o) (sym (l .from));
-      within = rw (l .below) (u .within);
-      supplied = rw (l .below) (u .supplied);
-    }
-
 -- where no offer is priced from one price up to another, no more is offered below the other
 below-clear : (o : Offers) (from to : ℕ) → from ≤ to
     → ((i : ℕ) → i < o .count → from ≤ o .price i → to ≤ o .price i) → supplyBelow o to ≡ supplyBelow o from
@@ -72,6 +61,18 @@ pub below-next : (d : Demand) (prices quantities : List ℕ) (n : ℕ) (b : Pric
     → supplyBelow (listed prices quantities n) next ≡ b .below
 below-next d prices quantities n b next u m =
     below-clear (listed prices quantities n) (b .from) next (m .low) (m .none) ∙ sym (u .below)
+
+-- a bracket drawn in to the offers inside it
+pub under-drawn-in : (d : Demand) (prices quantities : List ℕ) (n : ℕ) (b r : PriceBracket)
+    → Under d (listed prices quantities n) b → DrawnIn prices n b r → Under d (listed prices quantities n) r
+under-drawn-in d prices quantities n b r u i =
+    record {
+      low = i .none .high;
+      high = le-trans (i .less) (u .high);
+      below = i .below ∙ sym (below-next d prices quantities n b (r .from) u (i .none));
+      within = rw (i .below) (u .within);
+      supplied = rw (i .below) (u .supplied);
+    }
 
 module _ (d : Demand) (price below top low high : ℕ) (r : Reaches d price below top low high) where
   pub reaches-under : (k : ℕ) → low < k → k ≤ high → d .price k < price → Reaches d price below top low (k - 1)

@@ -2,9 +2,11 @@
 use crate::aim::aim;
 use crate::aim::close;
 use crate::supply::last_price;
+use crate::supply::next_from;
 use crate::supply::supply_at;
 use curve::Curve;
 use curve::tenth_price;
+use numbers::excess;
 ghost use mathlib.Core.Path.{_≡_};
 ghost use mathlib.Core.Bool.{true};
 ghost use Prim.Native.Nat.{_≤_, _<_};
@@ -12,7 +14,7 @@ ghost use lib.ListN.{length};
 ghost use Rattle.curve.specs.Shape.{Shaped};
 ghost use Rattle.curve.specs.Price.{tenthPrice, demandOf};
 ghost use Rattle.market.specs.inner.Rows.{RowLists, listed};
-ghost use Rattle.market.specs.inner.Bracket.{Under, Narrower, Lowered};
+ghost use Rattle.market.specs.inner.Bracket.{Under, Narrower, DrawnIn};
 
 // A price, with what is offered strictly below it, all of which clears; and a price up to which the total is looked for, with
 // how much is offered up to it.
@@ -71,25 +73,34 @@ fn as_before(b: PriceBracket, old: PriceBracket) -> bool {
     b.below == old.below && b.over == old.over
 }
 
-// A bracket whose upper end, where the last price told nothing, is the highest price of a row up to it: no less is offered up to
-// there.
-fn lowered(prices: &[u32], n: usize, b: PriceBracket, idle: bool) -> PriceBracket
-    requires { ⌜ (n ≤ length (now prices)) × (b .from ≤ b .cap) ⌝ }
-    ensures { λ r. ⌜ Lowered b r ⌝ }
+// A bracket drawn in to the offers inside it, where the last price told nothing: the lower end, if it is the one that moved, to
+// the lowest of their prices, and the upper end to the highest. No more is offered below the one, and no less up to the other.
+fn drawn_in(prices: &[u32], n: usize, b: PriceBracket, old: PriceBracket) -> PriceBracket
+    requires { ⌜ (n ≤ length (now prices)) × (b .from ≤ 1000000) ⌝ }
+    ensures { λ r. ⌜ DrawnIn (now (prices .entry)) n b r ⌝ }
 {
-    if !idle {
+    if !as_before(b, old) {
         return b;
     }
+    let from = next_from(prices, n, b.from, b.from == old.from);
+    if b.cap <= from {
+        return PriceBracket {
+            from,
+            below: b.below,
+            cap: b.cap,
+            over: b.over,
+        };
+    }
     PriceBracket {
-        from: b.from,
+        from,
         below: b.below,
-        cap: last_price(prices, n, b.from, b.cap),
+        cap: last_price(prices, n, from, b.cap),
         over: b.over,
     }
 }
 
-// A bracket narrowed until the total stops close over its lower end, or until a price has told nothing and the next price of an
-// offer is the one to try. Where a price has told nothing from over, offers may lie far below it, and the upper end goes there.
+// A bracket narrowed until the total stops close over its lower end. After a price that left more than half of it, its middle is
+// the next one to try.
 pub(crate) fn narrow(
     c: Curve,
     prices: &[u32],
@@ -107,13 +118,10 @@ pub(crate) fn narrow(
         if close(c, at, few) {
             return at;
         }
-        let next = narrowed(c, prices, quantities, n, at, aim(c, at, middle));
-        let idle = as_before(next, at);
-        if idle && at.from < next.from {
-            return next;
-        }
-        at = lowered(prices, n, next, idle);
-        middle = !middle;
+        let looked = narrowed(c, prices, quantities, n, at, aim(c, at, middle));
+        let next = drawn_in(prices, n, looked, at);
+        middle = !middle & ((at.cap - at.from) / 2 < excess(next.cap, next.from));
+        at = next;
     }
     at
 }

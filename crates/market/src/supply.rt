@@ -31,7 +31,7 @@ pub fn supply_at(prices: &[u32], quantities: &[u32], n: usize, limit: u32) -> u3
 
 // The lowest price of a row at `from` or over it, or 1,000,000. The difference to a price below `from` wraps round to more
 // than any other, so that this loop runs in lanes too.
-pub(crate) fn next_price(prices: &[u32], n: usize, from: u32) -> u32
+fn next_price(prices: &[u32], n: usize, from: u32) -> u32
     requires { ⌜ (n ≤ length (now prices)) × (from ≤ 1000000) ⌝ }
     ensures { λ r. ⌜ NoneBefore (now (prices .entry)) n from r ⌝ }
 {
@@ -40,6 +40,17 @@ pub(crate) fn next_price(prices: &[u32], n: usize, from: u32) -> u32
         step = lesser(step, wrapping_sub_u32(prices[row], from));
     }
     from + step
+}
+
+// The same, or `from` itself where that is the one to take.
+pub(crate) fn next_from(prices: &[u32], n: usize, from: u32, stay: bool) -> u32
+    requires { ⌜ (n ≤ length (now prices)) × (from ≤ 1000000) ⌝ }
+    ensures { λ r. ⌜ NoneBefore (now (prices .entry)) n from r ⌝ }
+{
+    if stay {
+        return from;
+    }
+    next_price(prices, n, from)
 }
 
 // The highest price of a row up to `top`, or `from`. The difference to a price over `top` wraps round too.

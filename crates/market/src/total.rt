@@ -4,16 +4,17 @@ use crate::bracket::PriceBracket;
 use crate::bracket::narrow;
 use crate::bracket::narrowed;
 use crate::level::Level;
-use crate::supply::next_price;
+use crate::supply::next_from;
 use crate::supply::supply_at;
 use curve::Curve;
 use curve::tenth_price;
 use numbers::lesser;
 ghost use Prim.Native.Nat.{_≤_, _<_};
+ghost use lib.ListN.{length};
 ghost use Rattle.auction.specs.Clearing.{clearedTotal};
 ghost use Rattle.curve.specs.Shape.{Shaped};
 ghost use Rattle.curve.specs.Price.{demandOf};
-ghost use Rattle.market.specs.inner.Bracket.{Reaches};
+ghost use Rattle.market.specs.inner.Bracket.{NoneBefore, Reaches};
 ghost use Rattle.market.specs.inner.Rows.{RowLists, listed};
 ghost use Rattle.market.specs.inner.Stop.{StopsAt, LevelBetween};
 
@@ -63,6 +64,16 @@ fn level(total: u32, price: u32, below: u32, reach: u32) -> Level
     }
 }
 
+// The price to try after a bracket: the lowest of a row from its lower end on, which is that end where both ends have met and
+// something is offered at it.
+fn next_tried(prices: &[u32], n: usize, b: PriceBracket) -> u32
+    requires { ⌜ (n ≤ length (now prices)) × (b .from ≤ 1000000) ⌝ }
+    ensures { λ r. ⌜ NoneBefore (now (prices .entry)) n (b .from) r ⌝ }
+{
+    let met = (b.from == b.cap) & (b.below < b.over);
+    next_from(prices, n, b.from, met)
+}
+
 // The cleared total and the level at which it stops. A bracket of prices is narrowed, and then the next price of an offer is
 // tried: by what is offered below it and up to it, the curve tells whether the total stops there. The search is close when no
 // more than an average offer is short, and with each price that the total goes past, half as much.
@@ -81,7 +92,7 @@ pub fn cleared_level(c: Curve, prices: &[u32], quantities: &[u32], n: usize) -> 
     let mut few = at.over / (n as u32 + 1);
     loop {
         at = narrow(c, prices, quantities, n, at, few);
-        let price = next_price(prices, n, at.from);
+        let price = next_tried(prices, n, at);
         let reach = supply_at(prices, quantities, n, price);
         let total = reached(c, price, at.below, lesser(reach, c.q3));
         if total < reach || price == 1000000 {

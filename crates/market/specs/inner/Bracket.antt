@@ -28,15 +28,6 @@ pub record Narrower (old new : PriceBracket) : Type 0 where
   -- and closer together
   pub less : new .cap - new .from < old .cap - old .from
 
--- a bracket with a lower upper end
-pub record Lowered (old new : PriceBracket) : Type 0 where
-  -- its lower end stays, with what is offered below it
-  pub from : new .from ≡ old .from
-  pub below : new .below ≡ old .below
-  -- its upper end is no lower than that, and no higher than it was
-  pub ordered : new .from ≤ new .cap
-  pub less : new .cap ≤ old .cap
-
 -- of n prices none lies from one price up to, and without, another
 pub record NoneBefore (prices : List ℕ) (n from to : ℕ) : Type 0 where
   -- the other is no lower, and not over the highest price
@@ -44,6 +35,15 @@ pub record NoneBefore (prices : List ℕ) (n from to : ℕ) : Type 0 where
   pub high : to ≤ 1000000
   -- a row's price that is no lower than the one is no lower than the other
   pub none : (i : ℕ) → i < n → from ≤ getD prices i 0 → to ≤ getD prices i 0
+
+-- a bracket drawn in to the n prices inside it
+pub record DrawnIn (prices : List ℕ) (n : ℕ) (old new : PriceBracket) : Type 0 where
+  -- none of them lies between the old lower end and the new one
+  pub none : NoneBefore prices n (old .from) (new .from)
+  -- so no more is offered below it
+  pub below : new .below ≡ old .below
+  -- its upper end is no higher
+  pub less : new .cap ≤ old .cap
 
 -- the largest quantity from `below` to `top` at which the demand asks the price or more, or `below`, lies from `low` to `high`
 pub record Reaches (d : Demand) (price below top low high : ℕ) : Type 0 where

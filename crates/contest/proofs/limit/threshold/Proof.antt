@@ -62,13 +62,20 @@ probe-requires c κs =
 turn-requires : tie.Need-turn-requires Inv-loop μ-loop
 turn-requires c κs = (search needs, (c .before .before .before .before .before .loop .inv, omega (arith, c .probe .ensures)))
 
+sub-halve : tie.Need-sub-halve Inv-loop μ-loop
+sub-halve c = search needs
+
+sub-halve-2 : tie.Need-sub-halve-2 Inv-loop μ-loop
+sub-halve-2 c = search needs
+
 loop-less : tie.Need-loop-less Inv-loop μ-loop
 loop-less c =
-    let inside = c .before .probe .ensures in
-    omega (arith, c .turn .ensures .nearer (inside .0) (inside .1), c .before .before .before .before .before .before .loop .inv .ordered)
+    let told = c .before .before in
+    let inside = told .before .probe .ensures in
+    omega (arith, told .turn .ensures .nearer (inside .0) (inside .1), told .before .before .before .before .before .before .loop .inv .ordered)
 
 loop-again : tie.Need-loop-again Inv-loop μ-loop
-loop-again c = c .turn .ensures .closer .between
+loop-again c = c .before .before .turn .ensures .closer .between
 
 returns-2 : tie.Need-returns-2 Inv-loop μ-loop
 returns-2 c =
@@ -94,6 +101,8 @@ threshold-spec =
     sub-if3
     probe-requires
     turn-requires
+    sub-halve
+    sub-halve-2
     loop-less
     loop-again
     returns-2

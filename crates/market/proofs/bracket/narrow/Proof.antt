@@ -4,7 +4,7 @@ use Prim.Native.Nat.{_-_, _≤_}
 use Rattle.curve.specs.Price.{demandOf}
 use Rattle.market.specs.inner.Bracket.{Under}
 use Rattle.market.specs.inner.Rows.{listed}
-use Rattle.market.proofs.Narrowing.{under-lowered}
+use Rattle.market.proofs.Narrowing.{under-drawn-in}
 use native.Mathlib.Omega.{arith}
 use borrow.Author.Needs.{needs}
 use Rattle.market.proofs.bracket.narrow.Statement.{statement}
@@ -32,28 +32,32 @@ aim-requires c κs = search needs
 narrowed-requires : tie.Need-narrowed-requires Inv-loop μ-loop
 narrowed-requires c κs = search needs
 
-as-before-requires : tie.Need-as-before-requires Inv-loop μ-loop
-as-before-requires c κs = search needs
+drawn-in-requires : tie.Need-drawn-in-requires Inv-loop μ-loop
+drawn-in-requires c κs = search needs
 
-returns-2 : tie.Need-returns-2 Inv-loop μ-loop
-returns-2 c = search needs
+sub-middle : tie.Need-sub-middle Inv-loop μ-loop
+sub-middle c = search needs
 
-lowered-requires : tie.Need-lowered-requires Inv-loop μ-loop
-lowered-requires c κs = search needs
+excess-requires : tie.Need-excess-requires Inv-loop μ-loop
+excess-requires c κs = search needs
 
 loop-less : tie.Need-loop-less Inv-loop μ-loop
-loop-less c = search needs
+loop-less c =
+    let drawn = c .before .before .drawn-in .ensures in
+    omega (arith, drawn .none .low, drawn .less, c .before .before .before .narrowed .ensures .1 .less)
 
 loop-again : tie.Need-loop-again Inv-loop μ-loop
 loop-again c =
     let looked = c .before .before .before in
-    let kept = looked .before .before .before .before .before .before .loop .inv .1 in (
-      under-lowered _ _ _ _ (looked .narrowed .ensures .0) (c .lowered .ensures),
-      omega (arith, kept, looked .narrowed .ensures .1 .from, c .lowered .ensures .from),
+    let loop = looked .before .before .before .before .before .before in
+    let start = loop .before .before .before .args in
+    let drawn = c .before .before .drawn-in .ensures in (
+      under-drawn-in _ (start .prices .now) (start .quantities .now) (start .n) _ _ (looked .narrowed .ensures .0) drawn,
+      omega (arith, loop .loop .inv .1, looked .narrowed .ensures .1 .from, drawn .none .low),
     )
 
-returns-3 : tie.Need-returns-3 Inv-loop μ-loop
-returns-3 c = search needs
+returns-2 : tie.Need-returns-2 Inv-loop μ-loop
+returns-2 c = search needs
 
 pub narrow-spec : {M : Type 1} → statement M
 narrow-spec =
@@ -66,9 +70,9 @@ narrow-spec =
     returns
     aim-requires
     narrowed-requires
-    as-before-requires
-    returns-2
-    lowered-requires
+    drawn-in-requires
+    sub-middle
+    excess-requires
     loop-less
     loop-again
-    returns-3)
+    returns-2)

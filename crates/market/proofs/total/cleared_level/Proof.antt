@@ -32,16 +32,16 @@ capped : (c : tie.Start Inv-loop μ-loop) → tenthPrice (c .args .c) 0 ≤ 1000
 capped c = omega (arith, price-most (c .args .c) (c .pre .0) 0, c .pre .0 .price-most)
 
 -- what is offered below the next price, and that it is no more than what is offered up to it
-below : (c : tie.After-next-price Inv-loop μ-loop)
-    → supplyBelow (offers (c .before .before .before .before .before .before .before .before .before)) (c .next-price .result)
+below : (c : tie.After-next-tried Inv-loop μ-loop)
+    → supplyBelow (offers (c .before .before .before .before .before .before .before .before .before)) (c .next-tried .result)
     ≡ c .before .narrow .result .below
 below c =
     let a = c .before .before .before .before .before .before .before .before .before .args in
-    below-next (demandOf (a .c)) (a .prices .now) (a .quantities .now) (a .n) (c .before .narrow .result) (c .next-price .result)
-    (c .before .narrow .ensures .0) (c .next-price .ensures)
+    below-next (demandOf (a .c)) (a .prices .now) (a .quantities .now) (a .n) (c .before .narrow .result) (c .next-tried .result)
+    (c .before .narrow .ensures .0) (c .next-tried .ensures)
 
 upto : (c : tie.After-supply-at Inv-loop μ-loop) → c .before .before .narrow .result .below ≤ c .supply-at .result
-upto c = below-upto _ (c .before .next-price .result) _ _ (below (c .before)) (c .supply-at .ensures .0)
+upto c = below-upto _ (c .before .next-tried .result) _ _ (below (c .before)) (c .supply-at .ensures .0)
 
 add-few : tie.Need-add-few Inv-loop μ-loop
 add-few c = search needs
@@ -66,8 +66,8 @@ loop-holds c = search needs
 narrow-requires : tie.Need-narrow-requires Inv-loop μ-loop
 narrow-requires c κs = search needs
 
-next-price-requires : tie.Need-next-price-requires Inv-loop μ-loop
-next-price-requires c κs = search needs
+next-tried-requires : tie.Need-next-tried-requires Inv-loop μ-loop
+next-tried-requires c κs = search needs
 
 supply-at-requires : tie.Need-supply-at-requires Inv-loop μ-loop
 supply-at-requires c κs = search needs
@@ -85,10 +85,10 @@ level-requires c κs = (c .before .reached .ensures .start, upto (c .before .bef
 
 -- where the search ends, less than all that is offered up to the price clears, or there is no higher price
 stop : (c : tie.After-level Inv-loop μ-loop)
-    → c .before .before .before .before .before .next-price .result < 1000000
+    → c .before .before .before .before .before .next-tried .result < 1000000
     → c .before .before .reached .result < c .before .before .before .before .supply-at .result
 stop c l =
-    let price = c .before .before .before .before .before .next-price .result in
+    let price = c .before .before .before .before .before .next-tried .result in
     ⊎-elim (λ w. w .taken) (λ w. absurd (omega (arith, eqb-true price 1000000 (w .1 .taken)))) (c .before .if1 .came)
 
 returns : tie.Need-returns Inv-loop μ-loop
@@ -98,14 +98,14 @@ returns c =
       reached-stops (demandOf (start .args .c)) (offers start) (curve-falls _ (start .pre .0)) _ (at .before .before .before .before .narrow .ensures .0) _ _ _
           (below (at .before .before .before)) (at .before .before .supply-at .ensures .0)
           (rw (at .before .lesser .ensures) at (at .reached .ensures))
-          (capped start) (at .before .before .before .next-price .ensures .high) (stop c) _ (c .level .ensures),
+          (capped start) (at .before .before .before .next-tried .ensures .high) (stop c) _ (c .level .ensures),
       omega (arith, c .level .ensures .total),
     )
 
 -- where it goes on, there is a higher price
-under-most : (c : tie.Else2 Inv-loop μ-loop) → c .before .before .before .before .before .next-price .result < 1000000
+under-most : (c : tie.Else2 Inv-loop μ-loop) → c .before .before .before .before .before .next-tried .result < 1000000
 under-most c =
-    let next = c .before .before .before .before .before .next-price in
+    let next = c .before .before .before .before .before .next-tried in
     omega (arith, next .ensures .high, eqb-false (next .result) 1000000 (c .if2 .left))
 
 add-at : tie.Need-add-at Inv-loop μ-loop
@@ -114,7 +114,7 @@ add-at c = search needs
 loop-less : tie.Need-loop-less Inv-loop μ-loop
 loop-less c =
     let at = c .before .before .before .before .before in
-    omega (arith, under-most c, at .next-price .ensures .low, at .before .narrow .ensures .1)
+    omega (arith, under-most c, at .next-tried .ensures .low, at .before .narrow .ensures .1)
 
 loop-again : tie.Need-loop-again Inv-loop μ-loop
 loop-again c =
@@ -138,7 +138,7 @@ cleared-level-spec =
     div-few
     loop-holds
     narrow-requires
-    next-price-requires
+    next-tried-requires
     supply-at-requires
     lesser-requires
     reached-requires
