@@ -2,7 +2,7 @@
 use crate::Answer;
 use book::opened;
 use book::rows::read_rows;
-use market::price::ClearingPrice;
+use pricing::ClearingPrice;
 use sale::Clearing;
 use sale::payment::clearing;
 use values::Verdict;

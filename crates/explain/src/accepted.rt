@@ -1,7 +1,6 @@
 // An accepted book: what the curve buys, and its rows. Each function answers whether its lines were taken, and says no more
 // once one was not.
 use crate::stepped::explain_together;
-use market::price::ClearingPrice;
 use page::bought::say_curve;
 use page::bought::say_last_point;
 use page::bought::say_next;
@@ -11,6 +10,7 @@ use page::bought::say_total;
 use page::rows::say_offer;
 use page::rows::say_settled;
 use page::rows::say_share;
+use pricing::ClearingPrice;
 use settle::make_whole;
 use values::place::Offer;
 use workings::read::RowOffer;

@@ -12,8 +12,8 @@ use Rattle.auction.specs.Shares.{levelAmount}
 use Rattle.units.specs.declared.CentsPerMwDay.{CentsPerMwDay}
 use Rattle.curve.specs.Price.{tenthPrice, demandOf}
 use Rattle.curve.specs.declared.Curve.{Curve}
-use Rattle.market.specs.inner.Stop.{StopsAt}
-use Rattle.market.specs.declared.level.Level.{Level}
+use Rattle.levels.specs.inner.Stop.{StopsAt}
+use Rattle.levels.specs.declared.level.Level.{Level}
 use Rattle.workings.specs.Stop.{levelAt, tenthAt, nextAt, stopAt}
 use Rattle.workings.specs.declared.stop.Tenth.{Tenth}
 use Rattle.workings.specs.declared.stop.Next.{Next}

@@ -21,8 +21,8 @@ use Rattle.layout.specs.Read.{rowOffers}
 use Rattle.layout.proofs.Contained.{length-rowOffers, contents-edition, contents-count}
 use Rattle.curve.specs.Price.{demandOf}
 use Rattle.curve.specs.declared.Curve.{Curve}
-use Rattle.market.specs.inner.Rows.{listed}
-use Rattle.market.specs.Stop.{stopLevel}
+use Rattle.levels.specs.inner.Rows.{listed}
+use Rattle.levels.specs.Stop.{stopLevel}
 use Rattle.columns.specs.inner.Column.{rowsOf}
 use Rattle.columns.specs.inner.Columns.{Columns}
 use Rattle.book.specs.Faults.{firstFault}

@@ -8,8 +8,8 @@ use Rattle.auction.specs.Clearing.{clearedTotal}
 use Rattle.auction.specs.Shares.{levelAmount}
 use Rattle.curve.specs.Price.{tenthPrice, demandOf}
 use Rattle.curve.specs.declared.Curve.{Curve}
-use Rattle.market.specs.Stop.{stopLevel}
-use Rattle.market.specs.declared.level.Level.{Level}
+use Rattle.levels.specs.Stop.{stopLevel}
+use Rattle.levels.specs.declared.level.Level.{Level}
 use Rattle.workings.specs.declared.stop.Tenth.{Tenth}
 use Rattle.workings.specs.declared.stop.Next.{Next}
 use Rattle.workings.specs.declared.stop.Next.the-variants.{Bought, NoMore}

@@ -1,12 +1,12 @@
 // A row's share of its price level.
-use market::level::supply_below;
-use market::supply::supply_at;
+use levels::level::supply_below;
+use levels::supply::supply_at;
 use numbers::excess;
 use numbers::lesser;
 ghost use mathlib.Core.Path.{_≡_};
 ghost use Prim.Native.Nat.{_<_};
 ghost use lib.ListN.{getD};
-ghost use Rattle.market.specs.inner.Rows.{RowLists, listed};
+ghost use Rattle.levels.specs.inner.Rows.{RowLists, listed};
 ghost use Rattle.workings.specs.Share.{shareAt, rowShareAt};
 ghost use Rattle.workings.specs.inner.Share.{Positive, LevelAt};
 

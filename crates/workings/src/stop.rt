@@ -1,14 +1,14 @@
 // Where a total stops on the curve, and why.
 use curve::Curve;
 use curve::tenth_price;
-use market::level::Level;
-use market::supply::supply_at;
+use levels::level::Level;
+use levels::supply::supply_at;
 use market::total::cleared_level;
 use units::CentsPerMwDay;
 ghost use mathlib.Core.Path.{_≡_};
 ghost use Prim.Native.Nat.{_≤_};
 ghost use Rattle.curve.specs.Shape.{Shaped};
-ghost use Rattle.market.specs.inner.Rows.{RowLists, listed};
+ghost use Rattle.levels.specs.inner.Rows.{RowLists, listed};
 ghost use Rattle.workings.specs.Stop.{tenthAt, nextAt, stopAt};
 
 // A tenth of a megawatt: the curve price there, and everything offered at that price or below.

@@ -12,7 +12,7 @@ use values::head::Parameters;
 ghost use mathlib.Core.Path.{_≡_};
 ghost use Rattle.limits.specs.Ranges.{Ranged};
 ghost use Rattle.region.specs.Region.{regionCurve};
-ghost use Rattle.market.specs.inner.Rows.{RowLists, listed};
+ghost use Rattle.levels.specs.inner.Rows.{RowLists, listed};
 ghost use Rattle.layout.specs.Read.{contentsOf};
 ghost use Rattle.book.specs.Faults.{firstFault};
 ghost use Rattle.book.specs.inner.Opening.{Opened};

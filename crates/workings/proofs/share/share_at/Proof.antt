@@ -4,7 +4,7 @@ use Prim.Native.Nat.{_<_}
 use lib.ListN.{getD}
 use native.Mathlib.Omega.{arith}
 use Rattle.auction.specs.Offers.{Offers}
-use Rattle.market.specs.inner.Rows.{listed}
+use Rattle.levels.specs.inner.Rows.{listed}
 use Rattle.workings.proofs.Shared.{row-level, exact-fits, share-is}
 use borrow.Author.Needs.{needs}
 use Rattle.workings.proofs.share.share_at.Statement.{statement}
