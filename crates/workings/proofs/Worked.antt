@@ -32,13 +32,13 @@ use Rattle.region.specs.Region.{regionCurve}
 use Rattle.sale.specs.Auction.{offersOf}
 use Rattle.sale.specs.inner.Sale.{Stands}
 use Rattle.sale.proofs.Sales.{columns-offers}
-use Rattle.workings.specs.Stop.{levelAt, tenthAt, nextAt, stopAt}
-use Rattle.workings.specs.Share.{shareAt, rowShareAt}
+use Rattle.reasons.specs.Stop.{levelAt, tenthAt, nextAt, stopAt}
+use Rattle.reasons.specs.Share.{shareAt, rowShareAt}
 use Rattle.workings.specs.Works.{worksAt, worksOf, workedBy}
 use Rattle.workings.specs.declared.works.Works.{Works}
 use Rattle.workings.specs.declared.works.WorksAnswer.the-variants.{Worked, Refused as WorksAnswer·Refused}
-use Rattle.workings.specs.declared.stop.Stop.{Stop}
-use Rattle.workings.specs.declared.share.RowShare.{RowShare}
+use Rattle.reasons.specs.declared.stop.Stop.{Stop}
+use Rattle.reasons.specs.declared.share.RowShare.{RowShare}
 
 -- ---- the answer by the book's first fault
 
