@@ -1,4 +1,3 @@
-pub mod Values
 pub mod Stages
 pub mod Unpriced
 pub mod Accepted

@@ -1,6 +1,4 @@
 // The first fault of a book, and whether a book is sound.
-pub mod rows;
-
 use block::SIZE;
 use layout::form::blocks_fault;
 use layout::form::form;
@@ -9,6 +7,7 @@ use layout::reader::edition;
 use layout::reader::offer_count;
 use limits::parameters::missing_in;
 use limits::parameters::parameter_fault;
+use reading::rows_fault;
 use values::Verdict;
 use values::and_then;
 use values::head::Parameters;
@@ -55,7 +54,7 @@ pub fn verdict(book: &[u8]) -> Verdict
     if let Verdict::Refused(number, place) = fault {
         return Verdict::Refused(number, place);
     }
-    rows::rows_fault(book, head.edition, head.rows, true)
+    rows_fault(book, head.edition, head.rows, true)
 }
 
 // The first fault by which a book is not sound: 1, 2, 3, then 5, 7, 8 and 10 on what is given.
@@ -68,5 +67,5 @@ pub fn soundness(book: &[u8]) -> Verdict
     if let Verdict::Refused(number, place) = parameter_fault(parameters_in(&book[0..SIZE])) {
         return Verdict::Refused(number, place);
     }
-    rows::rows_fault(book, edition(book), offer_count(book), false)
+    rows_fault(book, edition(book), offer_count(book), false)
 }

@@ -12,7 +12,7 @@ use denote.Ref.{RefT, now}
 use Rattle.laws.proofs.Cases.{by-order}
 use Rattle.values.specs.Values.{held}
 use Rattle.values.specs.declared.place.Offer.{Offer}
-use Rattle.market.specs.Price.{asPrice}
+use Rattle.pricing.specs.Price.{asPrice}
 use Rattle.values.specs.Contents.{Contents, noOffer, offerAt}
 use Rattle.layout.specs.Read.{contentsOf}
 use Rattle.sale.specs.Auction.{offersOf, total, price, rowCleared}

@@ -27,9 +27,9 @@ use Rattle.columns.specs.inner.Columns.{Columns, Blank, Listed}
 use Rattle.columns.proofs.Offers.{blank-listed}
 use Rattle.book.specs.Faults.{firstFault}
 use Rattle.book.specs.inner.Opening.{beforeRows, Opened}
-use Rattle.book.specs.inner.Rows.{RowsRead}
+use Rattle.reading.specs.inner.Rows.{RowsRead}
 use Rattle.book.proofs.Stages.{first-before, before-form, form-inside}
-use Rattle.book.proofs.Values.{rows-stored}
+use Rattle.reading.proofs.Values.{rows-stored}
 use Rattle.book.proofs.Accepted.{accepted-clearable}
 use Rattle.sale.specs.inner.Sale.{Stands, ClearedAs}
 use Rattle.sale.specs.Payment.{clearingOf, clearedList, committedList}

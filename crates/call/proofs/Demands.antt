@@ -19,7 +19,7 @@ use Rattle.auction.proofs.Total.{total-is-largest}
 use Rattle.auction.proofs.Best.{byPrice-best}
 use Rattle.auction.proofs.Cleared.{cleared-byPrice}
 use Rattle.auction.proofs.Divided.{cleared-divided, divided-agree}
-use Rattle.market.specs.Price.{asPrice}
+use Rattle.pricing.specs.Price.{asPrice}
 use Rattle.layout.specs.Read.{contentsOf}
 use Rattle.sale.specs.Auction.{offersOf, demand, total, price, rowCleared}
 use Rattle.call.specs.Answer.{Outcome}

@@ -24,7 +24,7 @@ use Rattle.values.specs.declared.Verdict.the-variants.{Passed}
 use Rattle.values.specs.declared.head.Parameters.{Parameters}
 use Rattle.values.proofs.Firsts.{andThen-next, first-zero}
 use Rattle.limits.specs.Offers.{rowsFault}
-use Rattle.market.specs.Price.{asPrice}
+use Rattle.pricing.specs.Price.{asPrice}
 use Rattle.layout.specs.Read.{contentsOf}
 use Rattle.book.specs.Faults.{firstFault}
 use Rattle.book.specs.inner.Opening.{beforeRows, Opened}

@@ -8,7 +8,7 @@ use contract.Lifetimes.{Lfts}
 use denote.Ref.{RefT, now}
 use Rattle.calendar.specs.Year.{daysOf}
 use Rattle.auction.proofs.Price.{price-none}
-use Rattle.market.specs.Price.{asPrice}
+use Rattle.pricing.specs.Price.{asPrice}
 use Rattle.layout.specs.Read.{contentsOf}
 use Rattle.sale.specs.Auction.{offersOf, demand, total, price, rowMakeWhole, allMakeWhole, dailyTotal, yearTotal}
 use Rattle.call.specs.Answer.{Outcome}

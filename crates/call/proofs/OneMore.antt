@@ -20,8 +20,8 @@ use Rattle.values.specs.Values.{held}
 use Rattle.values.specs.Contents.{Contents, noOffer, offerAt}
 use Rattle.values.specs.declared.place.Offer.{Offer}
 use Rattle.units.specs.declared.CentsPerMwDay.{CentsPerMwDay}
-use Rattle.market.specs.Price.{asPrice}
-use Rattle.market.specs.declared.price.ClearingPrice.the-variants.{Price}
+use Rattle.pricing.specs.Price.{asPrice}
+use Rattle.pricing.specs.declared.ClearingPrice.the-variants.{Price}
 use Rattle.layout.specs.Read.{contentsOf}
 use Rattle.book.proofs.Accepted.{accepted-clearable}
 use Rattle.sale.specs.Auction.{offersOf, demand, total, price}

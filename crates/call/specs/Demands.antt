@@ -9,7 +9,7 @@ use mathlib.Core.List.{List, [], _∷_, _++_}
 use lib.ListN.{length, getD}
 use Rattle.values.specs.Contents.{Contents, offerAt}
 use Rattle.values.specs.declared.place.Offer.{Offer}
-use Rattle.market.specs.declared.price.ClearingPrice.the-variants.{NoPrice}
+use Rattle.pricing.specs.declared.ClearingPrice.the-variants.{NoPrice}
 use Rattle.sale.specs.declared.Clearing.{Clearing}
 
 -- a clearing in which nothing cleared: no price, and nothing to pay

@@ -1,8 +1,8 @@
 // A book whose length holds: what it says before its rows is decoded once, its rows are read once, into columns, and cleared.
 use crate::Answer;
 use book::opened;
-use book::rows::read_rows;
-use market::price::ClearingPrice;
+use pricing::ClearingPrice;
+use reading::read_rows;
 use sale::Clearing;
 use sale::payment::clearing;
 use values::Verdict;

@@ -11,8 +11,8 @@ use Rattle.laws.proofs.Cases.{cond-true, cond-false}
 use Rattle.values.specs.Contents.{Contents}
 use Rattle.values.specs.declared.Verdict.{Verdict}
 use Rattle.values.specs.declared.Verdict.the-variants.{Passed, Refused}
-use Rattle.market.specs.declared.price.ClearingPrice.{ClearingPrice}
-use Rattle.market.specs.declared.price.ClearingPrice.the-variants.{Price, NoPrice}
+use Rattle.pricing.specs.declared.ClearingPrice.{ClearingPrice}
+use Rattle.pricing.specs.declared.ClearingPrice.the-variants.{Price, NoPrice}
 use Rattle.units.specs.declared.CentsPerMwDay.{CentsPerMwDay}
 use Rattle.layout.specs.Form.{editionOf, offerCount}
 use Rattle.layout.specs.Read.{rowOffers, contentsOf}

@@ -10,7 +10,7 @@ use book::verdict;
 use call::Answer;
 use call::quote;
 use layout::reader::offer_count;
-use market::price::ClearingPrice;
+use pricing::ClearingPrice;
 use values::Verdict;
 use values::head::parameters_in;
 ghost use mathlib.Core.Path.{_≡_};

@@ -1,7 +1,6 @@
 // An accepted book: what the curve buys, and its rows. Each function answers whether its lines were taken, and says no more
 // once one was not.
 use crate::stepped::explain_together;
-use market::price::ClearingPrice;
 use page::bought::say_curve;
 use page::bought::say_last_point;
 use page::bought::say_next;
@@ -11,15 +10,16 @@ use page::bought::say_total;
 use page::rows::say_offer;
 use page::rows::say_settled;
 use page::rows::say_share;
+use pricing::ClearingPrice;
+use reasons::share::RowShare;
+use reasons::share::Share;
+use reasons::stop::Next;
+use reasons::stop::Stop;
 use settle::make_whole;
 use values::place::Offer;
 use workings::read::RowOffer;
 use workings::read::offer_of;
 use workings::read::rows_of;
-use workings::share::RowShare;
-use workings::share::Share;
-use workings::stop::Next;
-use workings::stop::Stop;
 use workings::works::WorksAnswer;
 use workings::works::workings;
 

@@ -1,13 +1,13 @@
--- Brackets of prices, and of the quantity at which the curve reaches a price.
+-- Brackets of prices.
 --
 -- In order: the whole range of prices; a quantity that is offered at a price, and that the curve buys at it, can be supplied;
 -- the bracket over such a price; below the next price of an offer no more is offered than below the bracket, so that it can be
--- drawn in; a quantity at which the curve asks less than the price, and where both ends meet.
+-- drawn in.
 -- Assumes nothing.
-use mathlib.Core.Path.{_≡_, sym, subst, _∙_}
+use mathlib.Core.Path.{_≡_, sym, _∙_}
 use mathlib.Core.List.{List}
-use Prim.Native.Nat.{ℕ, suc, _+_, _-_, _≤_, _<_}
-use native.Mathlib.Nat.{le-antisymm, le-trans}
+use Prim.Native.Nat.{ℕ, _+_, _≤_, _<_}
+use native.Mathlib.Nat.{le-trans}
 use native.Mathlib.Numerals.{add-one}
 use native.Mathlib.Omega.{arith}
 use lib.Dec.{ltb}
@@ -16,8 +16,8 @@ use Rattle.laws.proofs.Cases.{by-order}
 use Rattle.laws.proofs.Where.{sumWhere-same}
 use Rattle.auction.specs.Offers.{Offers, Demand, supply, supplyBelow}
 use Rattle.auction.proofs.Supply.{supply-mono, supplyBelow-zero, supplyBelow-suc}
-use Rattle.market.specs.inner.Rows.{listed}
-use Rattle.market.specs.inner.Bracket.{Under, NoneBefore, DrawnIn, Reaches}
+use Rattle.levels.specs.inner.Rows.{listed}
+use Rattle.market.specs.inner.Bracket.{Under, NoneBefore, DrawnIn}
 use Rattle.market.specs.declared.bracket.PriceBracket.{PriceBracket}
 
 -- below the price 0 nothing is offered, and nothing can be supplied
@@ -73,18 +73,3 @@ under-drawn-in d prices quantities n b r u i =
       within = rw (i .below) (u .within);
       supplied = rw (i .below) (u .supplied);
     }
-
-module _ (d : Demand) (price below top low high : ℕ) (r : Reaches d price below top low high) where
-  pub reaches-under : (k : ℕ) → low < k → k ≤ high → d .price k < price → Reaches d price below top low (k - 1)
-  reaches-under k l m h =
-      let e : k ≡ suc (k - 1) = omega arith in
-      record {
-        start = r .start;
-        ordered = omega arith;
-        end = omega (arith, r .end);
-        met = r .met;
-        past = λ p. subst (λ (q : ℕ). d .price q < price) e h;
-      }
-
-  pub reaches-met : high ≤ low → Reaches d price below top low low
-  reaches-met l = subst (Reaches d price below top low) (le-antisymm l (r .ordered)) r

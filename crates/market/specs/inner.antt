@@ -1,4 +1,1 @@
-pub mod Rows
 pub mod Bracket
-pub mod Stop
-pub mod Price

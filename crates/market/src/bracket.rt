@@ -1,11 +1,11 @@
 // Prices between which the total stops.
 use crate::aim::aim;
 use crate::aim::close;
-use crate::supply::last_price;
-use crate::supply::next_from;
-use crate::supply::supply_at;
+use crate::prices::last_price;
+use crate::prices::next_from;
 use curve::Curve;
 use curve::tenth_price;
+use levels::supply::supply_at;
 use numbers::excess;
 ghost use mathlib.Core.Path.{_≡_};
 ghost use mathlib.Core.Bool.{true};
@@ -13,7 +13,7 @@ ghost use Prim.Native.Nat.{_≤_, _<_};
 ghost use lib.ListN.{length};
 ghost use Rattle.curve.specs.Shape.{Shaped};
 ghost use Rattle.curve.specs.Price.{tenthPrice, demandOf};
-ghost use Rattle.market.specs.inner.Rows.{RowLists, listed};
+ghost use Rattle.levels.specs.inner.Rows.{RowLists, listed};
 ghost use Rattle.market.specs.inner.Bracket.{Under, Narrower, DrawnIn};
 
 // A price, with what is offered strictly below it, all of which clears; and a price up to which the total is looked for, with

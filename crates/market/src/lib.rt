@@ -1,7 +1,5 @@
-// What the rows of a book clear against the curve.
+// The total that the rows of a book clear against the curve: the search, which is tuned to the curve.
 mod aim;
 mod bracket;
-pub mod level;
-pub mod price;
-pub mod supply;
+mod prices;
 pub mod total;

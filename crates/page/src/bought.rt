@@ -1,7 +1,7 @@
 // What the curve buys: its three points, the total and where it stops, the price and what sets it.
 use crate::say;
 use curve::Curve;
-use market::level::Level;
+use levels::level::Level;
 
 // Says the three points.
 pub fn say_curve(c: Curve) -> bool {

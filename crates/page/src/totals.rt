@@ -1,6 +1,6 @@
 // The totals of an accepted book.
 use crate::say;
-use market::price::ClearingPrice;
+use pricing::ClearingPrice;
 
 // The words for a daily total: 1 where the price is zero, 2 where there is none, and 0 for any other.
 fn words_for(price: ClearingPrice, daily: u64) -> u64 {

@@ -1,5 +1,5 @@
 // Each row's part of a total, rounded down.
-use market::level::Level;
+use levels::level::Level;
 ghost use mathlib.Core.Path.{_≡_};
 ghost use Prim.Native.Nat.{_*_, _/_, _≤_, _<_};
 ghost use lib.ListN.{length};

@@ -7,8 +7,8 @@ use mathlib.Core.Path.{_≡_, refl, sym, ap}
 use Prim.Native.Nat.{ℕ, _-_}
 use native.Mathlib.Omega.{arith}
 use Rattle.auction.specs.Settlement.{mills}
-use Rattle.market.specs.declared.price.ClearingPrice.{ClearingPrice}
-use Rattle.market.specs.declared.price.ClearingPrice.the-variants.{Price, NoPrice}
+use Rattle.pricing.specs.declared.ClearingPrice.{ClearingPrice}
+use Rattle.pricing.specs.declared.ClearingPrice.the-variants.{Price, NoPrice}
 use Rattle.settle.specs.inner.Read.{quoted}
 use Rattle.plain.specs.Answers.{clearingKind, clearingCents, exported, exportedMakeWhole}
 use Rattle.sale.specs.declared.Clearing.{Clearing}

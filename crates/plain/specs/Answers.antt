@@ -10,8 +10,8 @@ use mathlib.Core.Bool.{cond}
 use mathlib.Core.Option.{none, some}
 use lib.Dec.{eqb}
 use Rattle.auction.specs.Settlement.{mills}
-use Rattle.market.specs.declared.price.ClearingPrice.{ClearingPrice}
-use Rattle.market.specs.declared.price.ClearingPrice.the-variants.{Price, NoPrice}
+use Rattle.pricing.specs.declared.ClearingPrice.{ClearingPrice}
+use Rattle.pricing.specs.declared.ClearingPrice.the-variants.{Price, NoPrice}
 use Rattle.call.specs.declared.Answer.{Answer}
 use Rattle.call.specs.declared.Answer.the-variants.{Cleared as Answer·Cleared, Refused as Answer·Refused}
 use Rattle.plain.specs.declared.structs.OzpAnswer.{OzpAnswer}

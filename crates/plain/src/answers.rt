@@ -5,7 +5,7 @@ use crate::structs::OzpAnswer;
 use block::SIZE;
 use call::Answer;
 use layout::reader::offer_count;
-use market::price::ClearingPrice;
+use pricing::ClearingPrice;
 use sale::Clearing;
 ghost use mathlib.Core.Path.{_≡_};
 ghost use Rattle.call.specs.declared.Answer.the-variants.{Cleared};

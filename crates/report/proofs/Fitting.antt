@@ -11,8 +11,8 @@ use Rattle.text.specs.Number.{numberText}
 use Rattle.text.proofs.Puts.{written-append, written-none, fits-buffer, fits-place, length-put-fits}
 use Rattle.text.proofs.Numbers.{length-number}
 use Rattle.units.specs.declared.CentsPerMwDay.{CentsPerMwDay}
-use Rattle.market.specs.declared.price.ClearingPrice.{ClearingPrice}
-use Rattle.market.specs.declared.price.ClearingPrice.the-variants.{Price, NoPrice}
+use Rattle.pricing.specs.declared.ClearingPrice.{ClearingPrice}
+use Rattle.pricing.specs.declared.ClearingPrice.the-variants.{Price, NoPrice}
 use Rattle.values.specs.Place.{offerOf}
 use Rattle.values.specs.declared.place.Offer.{Offer}
 use Rattle.sections.specs.Blocks.{rowBytes}

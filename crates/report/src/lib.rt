@@ -10,7 +10,7 @@ use call::clear;
 use layout::reader::edition;
 use layout::reader::offer_count;
 use layout::reader::row_bytes;
-use market::price::ClearingPrice;
+use pricing::ClearingPrice;
 use sale::Clearing;
 use settle::make_whole;
 use values::place::offer_in;

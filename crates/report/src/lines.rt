@@ -1,5 +1,5 @@
 // The lines of a report: a price, a refusal, a row, and a word with a number.
-use market::price::ClearingPrice;
+use pricing::ClearingPrice;
 use text::put_byte;
 use text::put_bytes;
 use text::put_number;

@@ -25,8 +25,8 @@ use Rattle.values.specs.Contents.{Contents, offerAt}
 use Rattle.values.specs.declared.head.Parameters.{Parameters}
 use Rattle.region.specs.Region.{regionCurve}
 use Rattle.curve.proofs.Prices.{price-most}
-use Rattle.market.specs.Price.{asPrice}
-use Rattle.market.specs.declared.price.ClearingPrice.{ClearingPrice}
+use Rattle.pricing.specs.Price.{asPrice}
+use Rattle.pricing.specs.declared.ClearingPrice.{ClearingPrice}
 use Rattle.settle.specs.Read.{optional}
 use Rattle.settle.specs.inner.Read.{quoted}
 use Rattle.settle.specs.inner.Rows.{committedFrom, rowCommits, rowPast, Committable}

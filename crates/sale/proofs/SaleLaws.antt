@@ -14,13 +14,13 @@ use Rattle.values.specs.declared.head.Parameters.{Parameters}
 use Rattle.region.specs.Region.{regionCurve}
 use Rattle.curve.specs.Price.{demandOf}
 use Rattle.curve.specs.declared.Curve.{Curve}
-use Rattle.market.specs.inner.Rows.{RowLists, listed}
-use Rattle.market.specs.inner.Stop.{StopsAt}
-use Rattle.market.specs.Price.{asPrice}
-use Rattle.market.specs.inner.Price.{priceAt}
-use Rattle.market.specs.declared.level.Level.{Level}
-use Rattle.market.specs.declared.price.ClearingPrice.{ClearingPrice}
-use Rattle.market.proofs.Agree.{price-agrees}
+use Rattle.levels.specs.inner.Rows.{RowLists, listed}
+use Rattle.levels.specs.inner.Stop.{StopsAt}
+use Rattle.pricing.specs.Price.{asPrice}
+use Rattle.pricing.specs.inner.Price.{priceAt}
+use Rattle.levels.specs.declared.level.Level.{Level}
+use Rattle.pricing.specs.declared.ClearingPrice.{ClearingPrice}
+use Rattle.pricing.proofs.Agree.{price-agrees}
 use Rattle.shares.specs.inner.Out.{SharedOut}
 use Rattle.columns.specs.inner.Column.{rowsOf}
 use Rattle.columns.specs.inner.Columns.{Columns}

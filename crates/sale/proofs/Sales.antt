@@ -13,7 +13,7 @@ use Rattle.auction.specs.Offers.{Offers}
 use Rattle.auction.specs.Shares.{cleared}
 use Rattle.values.specs.Contents.{Contents}
 use Rattle.values.specs.declared.head.Parameters.{Parameters}
-use Rattle.market.specs.inner.Rows.{RowLists}
+use Rattle.levels.specs.inner.Rows.{RowLists}
 use Rattle.shares.specs.inner.Out.{SharedOut, Ordered}
 use Rattle.shares.proofs.Outcome.{shared-filled}
 use Rattle.columns.specs.inner.Column.{rowPrice, rowQuantity, rowLeast, rowResource, rowStamp, rowStep, rowsOf}

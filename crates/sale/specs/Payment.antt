@@ -6,7 +6,7 @@ use Prim.Native.Nat.{ℕ}
 use lib.ListN.{length}
 use Rattle.laws.specs.Filled.{filled}
 use Rattle.values.specs.Contents.{Contents}
-use Rattle.market.specs.Price.{asPrice}
+use Rattle.pricing.specs.Price.{asPrice}
 use Rattle.sale.specs.Auction.{total, price, rowCleared, rowCommitted, allMakeWhole, dailyTotal, yearTotal}
 use Rattle.sale.specs.declared.Clearing.{Clearing}
 

@@ -3,7 +3,7 @@
 pub mod payment;
 pub mod sell;
 
-use market::price::ClearingPrice;
+use pricing::ClearingPrice;
 
 // What a book clears. Quantities are tenths of a megawatt, amounts mills.
 pub struct Clearing {

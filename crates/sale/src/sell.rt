@@ -1,13 +1,13 @@
 // What rows sell on a curve: the total, the price, and each row's amount.
 use curve::Curve;
-use market::price::ClearingPrice;
-use market::price::clearing_price;
 use market::total::cleared_level;
+use pricing::ClearingPrice;
+use pricing::clearing_price;
 use shares::share_out;
 ghost use Prim.Native.Nat.{_≤_};
 ghost use lib.ListN.{length};
 ghost use Rattle.curve.specs.Shape.{Shaped};
-ghost use Rattle.market.specs.inner.Rows.{RowLists};
+ghost use Rattle.levels.specs.inner.Rows.{RowLists};
 ghost use Rattle.columns.specs.inner.Column.{rowsOf};
 ghost use Rattle.shares.specs.inner.Out.{Ordered};
 ghost use Rattle.sale.specs.inner.Sale.{SoldColumns};

@@ -6,7 +6,7 @@ use mathlib.Core.List.{List}
 use Prim.Native.Nat.{ℕ}
 use contract.Lifetimes.{Lfts}
 use denote.Ref.{RefT, now, at-last}
-use Rattle.market.specs.declared.price.ClearingPrice.{ClearingPrice}
+use Rattle.pricing.specs.declared.ClearingPrice.{ClearingPrice}
 use Rattle.settle.proofs.commit.Reads as commit
 use Rattle.settle.proofs.mills_of.Reads as mills-of
 use Rattle.settle.proofs.make_whole.Reads as make-whole

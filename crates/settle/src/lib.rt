@@ -1,5 +1,5 @@
 // What a row commits and what is paid, in mills a day.
-use market::price::ClearingPrice;
+use pricing::ClearingPrice;
 ghost use mathlib.Core.Path.{_≡_};
 ghost use Prim.Native.Nat.{_-_, _≤_};
 ghost use lib.ListN.{length};

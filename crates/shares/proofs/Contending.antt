@@ -20,7 +20,7 @@ use Rattle.laws.proofs.Keys.{thenBy-rest, thenBy-halves}
 use Rattle.auction.specs.Offers.{Offers}
 use Rattle.auction.specs.Shares.{weighted, shareDown, remainder, spareTenths, ahead, rank, cleared}
 use Rattle.columns.specs.inner.Column.{rowsOf}
-use Rattle.market.specs.declared.level.Level.{Level}
+use Rattle.levels.specs.declared.level.Level.{Level}
 use Rattle.contest.specs.inner.Contest.{wins, contenders, inOrder}
 use Rattle.contest.proofs.Winning.{wins-contenders}
 use Rattle.parts.specs.inner.Parts.{keyOf, rowKey}

@@ -10,7 +10,7 @@ use denote.Ref.{RefT, now}
 use lib.Seq.{ext-getD}
 use Rattle.laws.proofs.Cases.{by-order}
 use Rattle.auction.specs.Offers.{Offers}
-use Rattle.market.specs.declared.level.Level.{Level}
+use Rattle.levels.specs.declared.level.Level.{Level}
 use Rattle.shares.specs.inner.Out.{SharedOut}
 use Rattle.shares.proofs.share_out.Reads as share-out
 

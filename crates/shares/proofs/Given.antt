@@ -15,11 +15,11 @@ use Rattle.laws.proofs.Where.{sumWhere-all}
 use Rattle.auction.specs.Offers.{Offers, supply, supplyBelow, levelSum}
 use Rattle.auction.specs.Shares.{levelAmount}
 use Rattle.auction.proofs.LevelDivision.{levelAmount-most}
-use Rattle.market.specs.declared.level.Level.{Level}
+use Rattle.levels.specs.declared.level.Level.{Level}
 use Rattle.columns.specs.inner.Column.{rowsOf}
-use Rattle.market.specs.inner.Rows.{RowLists, listed}
-use Rattle.market.specs.Stop.{stopLevel}
-use Rattle.market.specs.inner.Stop.{StopsAt}
+use Rattle.levels.specs.inner.Rows.{RowLists, listed}
+use Rattle.levels.specs.Stop.{stopLevel}
+use Rattle.levels.specs.inner.Stop.{StopsAt}
 use Rattle.shares.specs.inner.Out.{Ordered}
 use Rattle.parts.specs.inner.Divides.{DividesRows}
 use Rattle.shares.specs.inner.Stages.{Stopped}

@@ -16,9 +16,9 @@ use Rattle.laws.proofs.Summands.{sumWhere-ext, sumWhere-mono}
 use Rattle.auction.specs.Offers.{Offers, levelSum}
 use Rattle.auction.specs.Shares.{levelAmount, shareDown, spareTenths}
 use Rattle.auction.proofs.Spares.{spares-rest}
-use Rattle.market.specs.declared.level.Level.{Level}
+use Rattle.levels.specs.declared.level.Level.{Level}
 use Rattle.columns.specs.inner.Column.{rowsOf}
-use Rattle.market.specs.inner.Rows.{RowLists, listed}
+use Rattle.levels.specs.inner.Rows.{RowLists, listed}
 use Rattle.parts.specs.inner.Divides.{DividesRows}
 use Rattle.shares.specs.inner.Stages.{Stopped, HoldsParts}
 use Rattle.parts.proofs.RowParts.{part-most}

@@ -11,7 +11,7 @@ use Rattle.laws.proofs.Filling.{length-filling}
 use Rattle.laws.proofs.FilledRows.{filled-row, filled-past, filled-is}
 use Rattle.auction.specs.Offers.{Offers}
 use Rattle.auction.specs.Shares.{spareTenths, cleared}
-use Rattle.market.specs.declared.level.Level.{Level}
+use Rattle.levels.specs.declared.level.Level.{Level}
 use Rattle.shares.specs.inner.Out.{SharedOut}
 use Rattle.parts.specs.inner.Parts.{partOf}
 use Rattle.shares.specs.inner.Stages.{Stopped}

@@ -16,7 +16,7 @@ use Rattle.laws.proofs.Where.{sumWhere-place}
 use Rattle.laws.proofs.Summands.{sumWhere-ext}
 use Rattle.auction.specs.Offers.{Offers, levelSum}
 use Rattle.auction.specs.Shares.{levelAmount, weighted, shareDown, spareTenths, rank, cleared}
-use Rattle.market.specs.declared.level.Level.{Level}
+use Rattle.levels.specs.declared.level.Level.{Level}
 use Rattle.parts.specs.inner.Parts.{partOf}
 use Rattle.shares.specs.inner.Stages.{Stopped}
 use Rattle.parts.proofs.RowParts.{part-under, part-over, part-at}

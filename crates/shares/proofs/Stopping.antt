@@ -12,8 +12,8 @@ use Rattle.auction.specs.Offers.{Offers, supply, supplyBelow, levelSum}
 use Rattle.auction.specs.Shares.{levelAmount}
 use Rattle.auction.proofs.Supply.{supply-supplyBelow}
 use Rattle.auction.proofs.Levels.{level-whole, level-empty}
-use Rattle.market.specs.Stop.{stopLevel}
-use Rattle.market.proofs.Stops.{stops, stop-below}
+use Rattle.levels.specs.Stop.{stopLevel}
+use Rattle.levels.proofs.Stops.{stops, stop-below}
 
 module _ (o : Offers) (x p : ℕ) where
   -- no more than x is offered at a price under the stop

@@ -12,7 +12,7 @@ use Rattle.laws.proofs.Fills.{filled-ext}
 use Rattle.auction.specs.Offers.{Offers}
 use Rattle.auction.specs.Shares.{cleared}
 use Rattle.columns.specs.inner.Column.{rowsOf}
-use Rattle.market.specs.declared.level.Level.{Level}
+use Rattle.levels.specs.declared.level.Level.{Level}
 use Rattle.contest.specs.inner.Contest.{wins, contenders, inOrder}
 use Rattle.contest.specs.inner.Award.{Awarded}
 use Rattle.parts.specs.inner.Parts.{rowKey, rowStanding}

@@ -2,17 +2,17 @@
 mod spare;
 
 use crate::spare::give;
-use market::level::Level;
-use market::level::supply_below;
-use market::supply::supply_at;
+use levels::level::Level;
+use levels::level::supply_below;
+use levels::supply::supply_at;
 use parts::parts;
 ghost use mathlib.Core.Path.{_≡_};
 ghost use Prim.Native.Nat.{_≤_};
 ghost use lib.ListN.{length};
 ghost use Rattle.auction.specs.Offers.{levelSum};
 ghost use Rattle.columns.specs.inner.Column.{rowsOf};
-ghost use Rattle.market.specs.inner.Rows.{RowLists, listed};
-ghost use Rattle.market.specs.inner.Stop.{StopsAt};
+ghost use Rattle.levels.specs.inner.Rows.{RowLists, listed};
+ghost use Rattle.levels.specs.inner.Stop.{StopsAt};
 ghost use Rattle.shares.specs.inner.Out.{SharedOut, Ordered};
 
 // What the rows at a price hold together.

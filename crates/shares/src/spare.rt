@@ -1,6 +1,6 @@
 // The spare tenths of the level at which a total stops: one each to the first in the order.
 use contest::award;
-use market::level::Level;
+use levels::level::Level;
 use parts::exact;
 ghost use mathlib.Core.Path.{_≡_};
 ghost use mathlib.Core.Bool.{cond};

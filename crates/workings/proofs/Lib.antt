@@ -1,5 +1,3 @@
 pub mod Offered
-pub mod Stops
-pub mod Shared
 pub mod Worked
 pub mod Decided

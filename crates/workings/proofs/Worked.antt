@@ -21,8 +21,8 @@ use Rattle.layout.specs.Read.{rowOffers}
 use Rattle.layout.proofs.Contained.{length-rowOffers, contents-edition, contents-count}
 use Rattle.curve.specs.Price.{demandOf}
 use Rattle.curve.specs.declared.Curve.{Curve}
-use Rattle.market.specs.inner.Rows.{listed}
-use Rattle.market.specs.Stop.{stopLevel}
+use Rattle.levels.specs.inner.Rows.{listed}
+use Rattle.levels.specs.Stop.{stopLevel}
 use Rattle.columns.specs.inner.Column.{rowsOf}
 use Rattle.columns.specs.inner.Columns.{Columns}
 use Rattle.book.specs.Faults.{firstFault}
@@ -32,13 +32,13 @@ use Rattle.region.specs.Region.{regionCurve}
 use Rattle.sale.specs.Auction.{offersOf}
 use Rattle.sale.specs.inner.Sale.{Stands}
 use Rattle.sale.proofs.Sales.{columns-offers}
-use Rattle.workings.specs.Stop.{levelAt, tenthAt, nextAt, stopAt}
-use Rattle.workings.specs.Share.{shareAt, rowShareAt}
+use Rattle.reasons.specs.Stop.{levelAt, tenthAt, nextAt, stopAt}
+use Rattle.reasons.specs.Share.{shareAt, rowShareAt}
 use Rattle.workings.specs.Works.{worksAt, worksOf, workedBy}
 use Rattle.workings.specs.declared.works.Works.{Works}
 use Rattle.workings.specs.declared.works.WorksAnswer.the-variants.{Worked, Refused as WorksAnswer·Refused}
-use Rattle.workings.specs.declared.stop.Stop.{Stop}
-use Rattle.workings.specs.declared.share.RowShare.{RowShare}
+use Rattle.reasons.specs.declared.stop.Stop.{Stop}
+use Rattle.reasons.specs.declared.share.RowShare.{RowShare}
 
 -- ---- the answer by the book's first fault
 

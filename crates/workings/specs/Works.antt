@@ -10,8 +10,8 @@ use Rattle.curve.specs.Price.{demandOf}
 use Rattle.curve.specs.declared.Curve.{Curve}
 use Rattle.region.specs.Region.{regionCurve}
 use Rattle.sale.specs.Auction.{offersOf}
-use Rattle.workings.specs.Stop.{stopAt}
-use Rattle.workings.specs.Share.{rowShareAt}
+use Rattle.reasons.specs.Stop.{stopAt}
+use Rattle.reasons.specs.Share.{rowShareAt}
 use Rattle.workings.specs.declared.works.Works.{Works}
 use Rattle.workings.specs.declared.works.WorksAnswer.{WorksAnswer}
 use Rattle.workings.specs.declared.works.WorksAnswer.the-variants.{Worked, Refused as WorksAnswer·Refused}

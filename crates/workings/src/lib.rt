@@ -4,6 +4,4 @@
 // Every public function takes a book of bytes and looks at its faults first, so that it asks nothing of its caller. It is the
 // work of one page for one reader: nothing is kept from call to call.
 pub mod read;
-pub mod share;
-pub mod stop;
 pub mod works;

@@ -1,22 +1,22 @@
 // The workings of an accepted book: where its total stops, and a row's share of its level.
-use crate::share::RowShare;
-use crate::share::row_share_at;
-use crate::stop::Stop;
-use crate::stop::stop_at;
 use book::opened;
-use book::rows::read_rows;
 use layout::form::lengths;
+use reading::read_rows;
+use reasons::share::RowShare;
+use reasons::share::row_share_at;
+use reasons::stop::Stop;
+use reasons::stop::stop_at;
 use region::region_curve;
 use values::Verdict;
 use values::head::Parameters;
 ghost use mathlib.Core.Path.{_≡_};
 ghost use Rattle.limits.specs.Ranges.{Ranged};
 ghost use Rattle.region.specs.Region.{regionCurve};
-ghost use Rattle.market.specs.inner.Rows.{RowLists, listed};
+ghost use Rattle.levels.specs.inner.Rows.{RowLists, listed};
 ghost use Rattle.layout.specs.Read.{contentsOf};
 ghost use Rattle.book.specs.Faults.{firstFault};
 ghost use Rattle.book.specs.inner.Opening.{Opened};
-ghost use Rattle.workings.specs.inner.Share.{Positive};
+ghost use Rattle.reasons.specs.inner.Share.{Positive};
 ghost use Rattle.workings.specs.Works.{worksAt, worksOf, workedBy};
 
 // Where the total stops, and the share of one row.

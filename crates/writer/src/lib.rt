@@ -1,10 +1,10 @@
 // The writer of books. The rows are put into their places first, in bytes that are all zero; then the book is made around them
 // and read again by the tests of a sound book, so that no test has a second form.
 use block::SIZE;
-use book::rows::rows_fault;
 use layout::head::edition_known;
 use limits::parameters::parameter_fault;
 use making::put_book;
+use reading::rows_fault;
 use sections::section::blocks_for;
 use values::Verdict;
 use values::head::Parameters;

@@ -1,6 +1,6 @@
 -- The clearing of a book of no rows.
 -- Assumes nothing.
-use Rattle.market.specs.declared.price.ClearingPrice.the-variants.{NoPrice}
+use Rattle.pricing.specs.declared.ClearingPrice.the-variants.{NoPrice}
 use Rattle.sale.specs.declared.Clearing.{Clearing}
 
 abbrev pub noneCleared : Clearing

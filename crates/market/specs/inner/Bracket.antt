@@ -1,6 +1,6 @@
--- Prices between which a total stops, and what is known of the quantity at which a price is met, against any demand.
+-- Prices between which a total stops, against any demand.
 -- Assumes nothing.
-use Prim.Native.Nat.{ℕ, suc, _-_, _≤_, _<_}
+use Prim.Native.Nat.{ℕ, _-_, _≤_, _<_}
 use mathlib.Core.Path.{_≡_}
 use mathlib.Core.List.{List}
 use lib.ListN.{getD}
@@ -44,14 +44,3 @@ pub record DrawnIn (prices : List ℕ) (n : ℕ) (old new : PriceBracket) : Type
   pub below : new .below ≡ old .below
   -- its upper end is no higher
   pub less : new .cap ≤ old .cap
-
--- the largest quantity from `below` to `top` at which the demand asks the price or more, or `below`, lies from `low` to `high`
-pub record Reaches (d : Demand) (price below top low high : ℕ) : Type 0 where
-  -- the four numbers are in order
-  pub start : below ≤ low
-  pub ordered : low ≤ high
-  pub end : high ≤ top
-  -- at `low`, if it is past `below`, the demand asks the price or more
-  pub met : below < low → price ≤ d .price low
-  -- one tenth past `high`, if it is before `top`, it asks less
-  pub past : high < top → d .price (suc high) < price

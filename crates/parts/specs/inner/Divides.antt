@@ -4,8 +4,8 @@ use Prim.Native.Nat.{ℕ, _≤_, _<_}
 use mathlib.Core.Path.{_≡_}
 use mathlib.Core.List.{List}
 use lib.ListN.{getD}
-use Rattle.market.specs.inner.Rows.{RowLists}
-use Rattle.market.specs.declared.level.Level.{Level}
+use Rattle.levels.specs.inner.Rows.{RowLists}
+use Rattle.levels.specs.declared.level.Level.{Level}
 
 -- a level's numbers are in a book's range, and where the row is at its price it has something to sell
 pub record Divides (l : Level) (price quantity : ℕ) : Type 0 where

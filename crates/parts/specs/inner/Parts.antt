@@ -8,7 +8,7 @@ use mathlib.Core.Bool.{cond}
 use mathlib.Core.List.{List}
 use lib.ListN.{getD}
 use lib.Dec.{ltb, eqb}
-use Rattle.market.specs.declared.level.Level.{Level}
+use Rattle.levels.specs.declared.level.Level.{Level}
 
 -- under the level all of the quantity, over it nothing, at it the exact part rounded down
 unfoldable pub partOf : Level → ℕ → ℕ → ℕ

@@ -12,7 +12,7 @@ use Rattle.auction.specs.Offers.{Offers}
 use Rattle.auction.specs.Clearing.{clearedTotal, clearingPrice}
 use Rattle.curve.specs.Price.{demandOf}
 use Rattle.curve.specs.declared.Curve.{Curve}
-use Rattle.market.specs.Price.{asPrice}
+use Rattle.pricing.specs.Price.{asPrice}
 use Rattle.shares.specs.inner.Out.{SharedOut}
 use Rattle.sale.specs.Payment.{clearingOf, clearedList, committedList}
 use Rattle.sale.specs.declared.Clearing.{Clearing}

@@ -2,8 +2,8 @@
 -- Assumes nothing.
 use Prim.Native.Nat.{ℕ}
 use mathlib.Core.Option.{Option, none, some}
-use Rattle.market.specs.declared.price.ClearingPrice.{ClearingPrice}
-use Rattle.market.specs.declared.price.ClearingPrice.the-variants.{Price, NoPrice}
+use Rattle.pricing.specs.declared.ClearingPrice.{ClearingPrice}
+use Rattle.pricing.specs.declared.ClearingPrice.the-variants.{Price, NoPrice}
 
 -- the price that a clearing quotes, if it quotes one
 abbrev pub quoted : ClearingPrice → Option ℕ

@@ -7,8 +7,8 @@ use lib.ListN.{length, getD}
 use Rattle.auction.specs.Offers.{Offers}
 use Rattle.auction.specs.Shares.{spareTenths}
 use Rattle.columns.specs.inner.Column.{rowsOf}
-use Rattle.market.specs.inner.Stop.{StopsAt}
-use Rattle.market.specs.declared.level.Level.{Level}
+use Rattle.levels.specs.inner.Stop.{StopsAt}
+use Rattle.levels.specs.declared.level.Level.{Level}
 use Rattle.shares.specs.inner.Out.{Ordered}
 use Rattle.parts.specs.inner.Parts.{rowPart}
 use Rattle.parts.specs.inner.Divides.{DividesRows}

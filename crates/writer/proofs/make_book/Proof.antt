@@ -9,7 +9,7 @@ use Rattle.writer.proofs.make_book.Statement.{statement}
 use Rattle.writer.proofs.make_book.Tie as tie
 use Rattle.writer.proofs.make_book.Reads as reads
 use Rattle.writer.proofs.make_book.Lts as lts
-use Rattle.book.proofs.rows.rows_fault.Reads as rows-fault-reads
+use Rattle.reading.proofs.rows_fault.Reads as rows-fault-reads
 use Rattle.layout.proofs.head.edition_known.Reads as edition-known-reads
 use Rattle.limits.proofs.parameters.parameter_fault.Reads as parameter-fault-reads
 use Rattle.making.proofs.put_book.Reads as put-book-reads

@@ -3,7 +3,7 @@
 use Prim.Native.Nat.{_-_, _≤_}
 use Rattle.curve.specs.Price.{demandOf}
 use Rattle.market.specs.inner.Bracket.{Under}
-use Rattle.market.specs.inner.Rows.{listed}
+use Rattle.levels.specs.inner.Rows.{listed}
 use Rattle.market.proofs.Narrowing.{under-drawn-in}
 use native.Mathlib.Omega.{arith}
 use borrow.Author.Needs.{needs}

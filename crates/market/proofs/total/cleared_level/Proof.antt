@@ -1,17 +1,18 @@
 -- `market::total::cleared_level` is the level at which the cleared total stops. The loop's invariant: the total is no less than
 -- what is offered below the bracket.
 -- Assumes nothing.
-use mathlib.Core.Path.{_≡_}
-use mathlib.Core.Logic.{⊎-elim}
+use mathlib.Core.Path.{_≡_, sym, _∙_}
+use mathlib.Core.Bool.{false}
 use Prim.Native.Nat.{_-_, _≤_, _<_}
 use native.Mathlib.Omega.{arith}
 use borrow.Author.Needs.{needs}
-use borrow.Author.Tests.{eqb-true, eqb-false}
 use Rattle.auction.specs.Offers.{Offers, supplyBelow}
 use Rattle.curve.specs.Price.{demandOf, tenthPrice}
 use Rattle.curve.proofs.Prices.{curve-falls, price-most}
+use Rattle.levels.specs.inner.Rows.{listed}
+use Rattle.levels.specs.inner.Reach.{stopsThere}
+use Rattle.levels.proofs.Reaching.{goes-past}
 use Rattle.market.specs.inner.Bracket.{Under}
-use Rattle.market.specs.inner.Rows.{listed}
 use Rattle.market.proofs.Narrowing.{under-whole, below-next}
 use Rattle.market.proofs.Stopping.{below-upto, reached-all, reached-stops}
 use Rattle.market.proofs.total.cleared_level.Statement.{statement}
@@ -72,41 +73,38 @@ next-tried-requires c κs = search needs
 supply-at-requires : tie.Need-supply-at-requires Inv-loop μ-loop
 supply-at-requires c κs = search needs
 
-lesser-requires : tie.Need-lesser-requires Inv-loop μ-loop
-lesser-requires c κs = search needs
+tenths-at-requires : tie.Need-tenths-at-requires Inv-loop μ-loop
+tenths-at-requires c κs = search needs
 
-reached-requires : tie.Need-reached-requires Inv-loop μ-loop
-reached-requires c κs =
-    let start = c .before .before .before .before .before .before .before .before .before .before .before in
-    (start .pre .0, omega (arith, upto (c .before)), omega arith)
+level-at-requires : tie.Need-level-at-requires Inv-loop μ-loop
+level-at-requires c κs =
+    let narrow = c .before .before .before in
+    let start = narrow .before .before .before .before .before .before .before .before in
+    (start .pre .0, upto (c .before), narrow .narrow .ensures .0 .within)
 
-level-requires : tie.Need-level-requires Inv-loop μ-loop
-level-requires c κs = (c .before .reached .ensures .start, upto (c .before .before .before))
-
--- where the search ends, less than all that is offered up to the price clears, or there is no higher price
-stop : (c : tie.After-level Inv-loop μ-loop)
-    → c .before .before .before .before .before .next-tried .result < 1000000
-    → c .before .before .reached .result < c .before .before .before .before .supply-at .result
-stop c l =
-    let price = c .before .before .before .before .before .next-tried .result in
-    ⊎-elim (λ w. w .taken) (λ w. absurd (omega (arith, eqb-true price 1000000 (w .1 .taken)))) (c .before .if1 .came)
+stops-requires : tie.Need-stops-requires Inv-loop μ-loop
+stops-requires c κs = search needs
 
 returns : tie.Need-returns Inv-loop μ-loop
 returns c =
     let at = c .before .before in
-    let start = at .before .before .before .before .before .before .before .before .before .before .before .before in (
-      reached-stops (demandOf (start .args .c)) (offers start) (curve-falls _ (start .pre .0)) _ (at .before .before .before .before .narrow .ensures .0) _ _ _
-          (below (at .before .before .before)) (at .before .before .supply-at .ensures .0)
-          (rw (at .before .lesser .ensures) at (at .reached .ensures))
-          (capped start) (at .before .before .before .next-tried .ensures .high) (stop c) _ (c .level .ensures),
-      omega (arith, c .level .ensures .total),
+    let tried = at .before .before .before in
+    let start = tried .before .before .before .before .before .before .before .before .before in (
+      reached-stops (demandOf (start .args .c)) (offers start) (curve-falls _ (start .pre .0)) _ (tried .before .narrow .ensures .0) _ _
+          (below tried) (at .before .before .supply-at .ensures .0) _ (at .level-at .ensures)
+          (capped start) (tried .next-tried .ensures .high) (sym (c .before .stops .ensures) ∙ c .if1 .taken),
+      omega (arith, at .level-at .ensures .total .end),
     )
 
--- where it goes on, there is a higher price
-under-most : (c : tie.Else2 Inv-loop μ-loop) → c .before .before .before .before .before .next-tried .result < 1000000
+-- where the search goes on, the total goes past the level
+past : (c : tie.Else1 Inv-loop μ-loop) → stopsThere (c .before .before .level-at .result) ≡ false
+past c = sym (c .before .stops .ensures) ∙ c .if1 .left
+
+-- and there is a higher price
+under-most : (c : tie.Else1 Inv-loop μ-loop) → c .before .before .before .before .before .next-tried .result < 1000000
 under-most c =
-    let next = c .before .before .before .before .before .next-tried in
-    omega (arith, next .ensures .high, eqb-false (next .result) 1000000 (c .if2 .left))
+    let at = c .before .before in
+    omega (arith, at .before .before .before .next-tried .ensures .high, goes-past _ (past c) .1, at .level-at .ensures .price)
 
 add-at : tie.Need-add-at Inv-loop μ-loop
 add-at c = search needs
@@ -119,11 +117,10 @@ loop-less c =
 loop-again : tie.Need-loop-again Inv-loop μ-loop
 loop-again c =
     let at = c .before .before in
-    let start = at .before .before .before .before .before .before .before .before .before .before .before .before in
-    reached-all (demandOf (start .args .c)) (offers start) (curve-falls _ (start .pre .0)) _ (at .before .before .before .before .narrow .ensures .0) _ _ _
-    (below (at .before .before .before)) (at .before .before .supply-at .ensures .0)
-    (rw (at .before .lesser .ensures) at (at .reached .ensures))
-    (c .before .if1 .left) (under-most c)
+    let tried = at .before .before .before in
+    let start = tried .before .before .before .before .before .before .before .before .before in
+    reached-all (demandOf (start .args .c)) (offers start) (curve-falls _ (start .pre .0)) _ (tried .before .narrow .ensures .0) _ _
+    (below tried) (at .before .before .supply-at .ensures .0) _ (at .level-at .ensures) (past c) (under-most c)
 
 pub cleared-level-spec : {M : Type 1} → statement M
 cleared-level-spec =
@@ -140,9 +137,9 @@ cleared-level-spec =
     narrow-requires
     next-tried-requires
     supply-at-requires
-    lesser-requires
-    reached-requires
-    level-requires
+    tenths-at-requires
+    level-at-requires
+    stops-requires
     returns
     add-at
     loop-less

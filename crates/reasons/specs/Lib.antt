@@ -1,0 +1,3 @@
+pub mod Stop
+pub mod Share
+pub mod inner
