@@ -1,0 +1,5 @@
+pub mod Other
+pub mod Converted
+pub mod Refused
+mod Putting
+mod Told
