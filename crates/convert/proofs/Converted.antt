@@ -62,9 +62,13 @@ module _ (b : List ℕ) (bytes : (i : ℕ) → i < length b → byte b i < 256) 
   fits : Fits c
   fits = read-fits b bytes (sound-form b sound)
 
+  -- there are at most 600 offers
+  pub read-few : length (c .offers) ≤ 600
+  read-few = fits .few
+
   module _ (down : downFault (contentsOf b) ≡ Passed) where
     -- every step is 1
-    ones : (row : ℕ) → row < length (c .offers) → offerAt (c .offers) row .step ≡ 1
+    pub ones : (row : ℕ) → row < length (c .offers) → offerAt (c .offers) row .step ≡ 1
     ones row l =
         by-edition (c .edition) (fits .edition)
         (λ one. fits .steps row l .one one)

@@ -3,3 +3,5 @@ pub mod Converted
 pub mod Refused
 mod Putting
 mod Told
+pub mod Made
+pub mod Decided
