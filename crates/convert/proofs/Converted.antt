@@ -130,11 +130,11 @@ module _ (b : List ℕ) (bytes : (i : ℕ) → i < length b → byte b i < 256) 
         ∙ first-all (oneStep (c .offers)) (length (c .offers)) (λ row l. row-passed (c .offers) row (omega (arith, ones row l))))
         (λ two. down-one (inOther c) (rw two refl))
 
-    -- and nothing else does, where the room has as many bytes.
-    pub converted-back-passes : convertFault (converted b) (length b) ≡ Passed
+    -- and nothing else does, where there is room for as many bytes.
+    pub converted-back-passes : (room : ℕ) → length b ≤ room → convertFault (converted b) room ≡ Passed
     unfolding convertFault
-    converted-back-passes =
+    converted-back-passes room long =
         andThen-next (soundFault (converted b)) _ converted-sound
         ∙ andThen-next (downFault (contentsOf (converted b))) _ back-down
-        ∙ unless-true (leb (length (converted (converted b))) (length b)) shortRoom
-        (le-leb (length (converted (converted b))) (length b) (omega (arith, ap length converted-back)))
+        ∙ unless-true (leb (length (converted (converted b))) room) shortRoom
+        (le-leb (length (converted (converted b))) room (omega (arith, ap length converted-back, long)))

@@ -2,6 +2,6 @@ pub mod Other
 pub mod Converted
 pub mod Refused
 mod Putting
-mod Told
+pub mod Told
 pub mod Made
 pub mod Decided

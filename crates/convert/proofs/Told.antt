@@ -1,14 +1,14 @@
 -- What converting answers and leaves, told from what its steps found and made.
 --
--- In order: 11 as the code reads the rows; a book that is refused; the book that was made.
+-- In order: the refusals before 20; 11 as the code reads the rows; a book that is refused; the book that was made.
 -- Assumes nothing.
 use mathlib.Core.Path.{_≡_, refl, sym, ap, ap₂, _∙_}
 use mathlib.Core.Bool.{cond}
 use mathlib.Core.List.{List}
 use Prim.Native.Nat.{ℕ}
-use lib.Dec.{eqb}
+use lib.Dec.{eqb, leb}
 use lib.ListN.{length}
-use Rattle.values.specs.Contents.{Contents}
+use Rattle.values.specs.Refusals.{shortRoom, unless, andThen}
 use Rattle.values.specs.declared.Verdict.{Verdict}
 use Rattle.values.specs.declared.Verdict.the-variants.{Passed, Refused}
 use Rattle.values.specs.declared.head.Parameters.{Parameters}
@@ -19,8 +19,19 @@ use Rattle.layout.proofs.Contained.{contents-count}
 use Rattle.book.specs.Faults.{soundFault}
 use Rattle.places.specs.inner.Rows.{putRows}
 use Rattle.making.specs.inner.Made.{bookMade}
-use Rattle.convert.specs.Convert.{otherEdition, stepsFault, downFault}
+use Rattle.convert.specs.Convert.{otherEdition, stepsFault, downFault, converted, convertFault}
 use Rattle.convert.specs.inner.Converts.{ownFault, otherMade, Converts}
+
+-- the first of three tests, by two and the third
+then-three : (u v w : Verdict) → andThen u (andThen v w) ≡ andThen (andThen u v) w
+then-three Passed v w = refl
+then-three (Refused number place) v w = refl
+
+-- what is refused before the room is looked at, and then 20
+pub convert-own : (b : List ℕ) (room : ℕ)
+    → convertFault b room ≡ andThen (ownFault b) (unless (leb (length (converted b)) room) shortRoom)
+unfolding convertFault ownFault
+convert-own b room = then-three (soundFault b) (downFault (contentsOf b)) _
 
 -- 11, by the edition and the count that block 0 states
 pub down-own : (b : List ℕ) (edition n : ℕ) → edition ≡ editionOf b → n ≡ offerCount b
