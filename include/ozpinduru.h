@@ -7,7 +7,7 @@
  * Every function answers every input, and its answer is proved to be the one described here. None keeps state, allocates or
  * looks at anything but its arguments, so any number of threads may call at once, also on one book. Of the C library they use
  * memcpy and memset. What one call writes must not overlap anything else that it is lent, and nobody else may write what it reads
- * or use what it writes while the call runs. A call uses less than 40 KiB of stack, ozp_write less than 48, ozp_compare less than
+ * or use what it writes while the call runs. A call uses less than 40 KiB of stack, ozp_write and ozp_convert less than 48, ozp_compare less than
  * 56 and ozp_report less than 72: that is measured, and no theorem bounds it.
  *
  * A slice is a pointer and a number of entries, all of which may be read (and, of a buffer, written). Where the number is 0
@@ -29,7 +29,7 @@ extern "C" {
 #endif
 
 #define OZP_VERSION_MAJOR 0
-#define OZP_VERSION_MINOR 7
+#define OZP_VERSION_MINOR 8
 #define OZP_VERSION_PATCH 0
 #define OZP_VERSION (OZP_VERSION_MAJOR * 1000000 + OZP_VERSION_MINOR * 1000 + OZP_VERSION_PATCH)
 
@@ -65,6 +65,7 @@ enum {
     OZP_SHORT_BUFFER = 9,           /* a result buffer has fewer entries than offers; 1 cleared, 2 committed */
     OZP_BROKEN_STEPS = 10,          /* a resource's steps do not stand in neighbouring rows counted up from 1, their prices
                                        fall, or a step past 1 has a minimum block; the row */
+    OZP_LATER_STEP = 11,            /* a row has a step of 2 or more, which edition 1 cannot hold; the row */
     OZP_TOO_MANY_ROWS = 19,         /* more than 600 rows; 0 */
     OZP_SHORT_ROOM = 20             /* the room lent is too small; 0 */
 };
@@ -156,6 +157,15 @@ ozp_contents ozp_read(const uint8_t *book, size_t book_bytes, ozp_row *rows, siz
  * small. A refusal leaves the room as it was. */
 ozp_text ozp_write(uint32_t edition, ozp_parameters parameters, const ozp_row *rows, size_t row_entries, uint8_t *room,
                    size_t room_bytes);
+
+/* Writes a sound book in the other edition into the room: one of edition 1 goes up to edition 2, with step 1 in every row, and one
+ * of edition 2 down to edition 1. Everything else that it says stays as it is, missing values too, and so does what it clears.
+ * Going there and back gives the same bytes.
+ *
+ * On OZP_GIVEN the book stands at the start of the room, in as many bytes as it had, and what stands behind it is not touched.
+ * Refused by 1, 2, 3, 5, 7, 8 and 10 where the book is not sound, a missing value being no fault; by 11 at the first row with a
+ * step of 2 or more where it would go down; by 20 at 0 where the room is too small. A refusal leaves the room as it was. */
+ozp_text ozp_convert(const uint8_t *book, size_t book_bytes, uint8_t *room, size_t room_bytes);
 
 /* Whether losers matter between two books.
  *

@@ -33,12 +33,14 @@ static void judge(const char *folder, const char *line)
             expect_rows(book, bytes, rows, name);
             expect_written_back(book, bytes, sound, name);
         }
+        expect_converted(book, bytes, sound, name);
         expect_refusal(clear(book, bytes, &out, ENTRIES, ENTRIES), &out, number, place, name);
         expect_refusal(clear(book, bytes, &out, 0, 0), &out, number, place, name);
         return;
     }
     expect_rows(book, bytes, rows, name);
     expect_written_back(book, bytes, sound, name);
+    expect_converted(book, bytes, sound, name);
     expect_clearing(clear(book, bytes, &out, ENTRIES, ENTRIES), &out, year_of(book), rows, name);
     expect_clearing(clear(book, bytes, &out, rows, rows), &out, year_of(book), rows, name);
     if (rows > 0) {

@@ -39,6 +39,8 @@ void expect_unread(const uint8_t *book, size_t bytes, unsigned number, unsigned 
 void reading(const char *folder);
 void expect_written_back(const uint8_t *book, size_t bytes, const char *verdict, const char *name);
 void writing(const char *folder);
+void expect_converted(const uint8_t *book, size_t bytes, const char *verdict, const char *name);
+void converting(const char *folder);
 void reference(const char *folder);
 void nothing(const char *folder);
 void curve(void);

@@ -26,6 +26,7 @@ static void *call_quote(void *lent) { ozp_quote(book, bytes); return lent; }
 static void *call_compare(void *lent) { ozp_compare(book, bytes, book, bytes); return lent; }
 static void *call_read(void *lent) { ozp_read(book, bytes, rows, ENTRIES); return lent; }
 static void *call_write(void *lent) { ozp_write(edition, parameters, rows, count, room, sizeof room); return lent; }
+static void *call_convert(void *lent) { ozp_convert(book, bytes, room, sizeof room); return lent; }
 static void *call_report(void *lent) { ozp_report(book, bytes, room, sizeof room); return lent; }
 static void *call_words(void *lent) { ozp_words(OZP_WRONG_LAYOUT, room, sizeof room); return lent; }
 static void *call_curve(void *lent) { ozp_curve(parameters); return lent; }
@@ -52,7 +53,7 @@ void stacks(const char *folder)
 {
     /* by name, with the KiB that the header says are more than enough */
     static const struct { const char *name; void *(*call)(void *); size_t enough; } calls[] = {
-        {"clear", call_clear, 40}, {"quote", call_quote, 40}, {"read", call_read, 40}, {"write", call_write, 48},
+        {"clear", call_clear, 40}, {"quote", call_quote, 40}, {"read", call_read, 40}, {"write", call_write, 48}, {"convert", call_convert, 48},
         {"curve", call_curve, 40}, {"price_at", call_price_at, 40}, {"report", call_report, 72}, {"words", call_words, 40},
         {"compare", call_compare, 56},
     };

@@ -21,6 +21,7 @@ int main(int count, char **words)
     nothing(words[1]);
     reading(words[1]);
     writing(words[1]);
+    converting(words[1]);
     curve();
     make_whole();
     days(words[1]);

@@ -81,10 +81,11 @@ void texts(const char *folder)
     expect_words(OZP_SHORT_BUFFER, "a result buffer has fewer entries than offers; 1 cleared, 2 committed");
     expect_words(OZP_BROKEN_STEPS, "a resource's steps do not stand in neighbouring rows counted up from 1, their prices fall, or a "
                                    "step past 1 has a minimum block; the row");
+    expect_words(OZP_LATER_STEP, "a row has a step of 2 or more, which edition 1 cannot hold; the row");
     expect_words(OZP_TOO_MANY_ROWS, "more than 600 rows; 0");
     expect_words(OZP_SHORT_ROOM, "the room lent is too small; 0");
     expect_no_words(0);
-    expect_no_words(11);
+    expect_no_words(12);
     expect_no_words(18);
     expect_no_words(21);
     expect_no_words(UINT32_MAX);

@@ -86,6 +86,8 @@ static const char *difference(const struct call *call, ozp_answer a, const uint3
         return "the comparison with itself";
     if (!is_written_back(call))
         return "what is written back";
+    if (!is_converted(call))
+        return "the other edition";
     return is_reported(call) ? NULL : "the report";
 }
 

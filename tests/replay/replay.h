@@ -27,5 +27,6 @@ int is_read(const struct call *call, size_t entries);
 int is_reported(const struct call *call);
 int is_compared(const struct call *call);
 int is_written_back(const struct call *call);
+int is_converted(const struct call *call);
 
 #endif

@@ -88,6 +88,15 @@ def written_back(due, book):
         return refusal.number in (5, 7, 8, 10) and due.kind == 3 and due.number != ozpinduru.Fault.SHORT_BUFFER
 
 
+def converted(due, book):
+    """Whether a book goes to the other edition and back again, unless it is not sound or has a later step."""
+    try:
+        other = ozpinduru.convert(book)
+    except ozpinduru.Refusal as refusal:
+        return refusal.number == 11 or due.kind == 3 and due.number != ozpinduru.Fault.SHORT_BUFFER
+    return ozpinduru.convert(other) == book and len(other) == len(book)
+
+
 def called(due, book, filled):
     """What differs where the package's own functions are called; their buffers are never short."""
     offers, price = read(due, book), due.price if due.kind == 1 else None
@@ -95,6 +104,8 @@ def called(due, book, filled):
         return "what is read"
     if not written_back(due, book):
         return "what is written back"
+    if not converted(due, book):
+        return "the other edition"
     if due.number == ozpinduru.Fault.SHORT_BUFFER:
         return None
     rows = [(offer.resource, x, y, (price or 0) * (y - x), offer.step) for offer, x, y in zip(offers, *filled)]

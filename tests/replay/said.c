@@ -48,6 +48,25 @@ int is_written_back(const struct call *call)
     return as_due && !clears && whole.number >= OZP_PARAMETER_OUT_OF_RANGE && cut.number == whole.number;
 }
 
+/* whether a book goes into room of just its length in the other edition and back again, and into none that is shorter; or is
+ * refused, as one that clears is only by 11 */
+int is_converted(const struct call *call)
+{
+    const struct head *due = &call->due;
+    size_t bytes = due->book_bytes;
+    int clears = due->kind != OZP_REFUSED || due->number == OZP_SHORT_BUFFER, as_due;
+    uint8_t *other = (uint8_t *)room(bytes), *again = (uint8_t *)room(bytes);
+    ozp_text there = ozp_convert(call->book, bytes, other, bytes);
+    if (there.kind == OZP_GIVEN) {
+        ozp_text back = ozp_convert(other, bytes, again, bytes), cut = ozp_convert(other, bytes, again, bytes - 1);
+        as_due = back.kind == OZP_GIVEN && memcmp(again, call->book, bytes) == 0 && cut.number == OZP_SHORT_ROOM;
+    } else
+        as_due = there.number == OZP_LATER_STEP || !clears;
+    free(other);
+    free(again);
+    return as_due;
+}
+
 /* whether a book's report fits room of just its length, and none that is shorter */
 int is_reported(const struct call *call)
 {

@@ -1,11 +1,11 @@
-//! Books written, and read and written back.
+//! Books written, read and written back, and written in the other edition.
 
 use crate::books::{distinct, in_runs, last_repeats, stepped};
 use crate::timing::best;
 use crate::{done, line};
 use oracle::book::Offer;
 use oracle::make::{book, reference};
-use ozpinduru::{read, write_into, MOST_BYTES};
+use ozpinduru::{convert_into, read, write_into, MOST_BYTES};
 use std::hint::black_box;
 
 /// What is written, the room for it, and the most that the library's time over plain Rust's may be.
@@ -36,6 +36,9 @@ pub fn compare() {
     cases.iter().for_each(written);
     back(&case("600 rows read and written back", &distinct(), MOST_BYTES, 0.7));
     back(&case("15 rows read and written back", few, MOST_BYTES, 1.0));
+    converted(&case("600 rows converted up", &distinct(), MOST_BYTES, 0.7));
+    converted(&Case { name: "600 rows converted down", bytes: stepped(&distinct()), room: MOST_BYTES, target: 0.7 });
+    converted(&case("15 rows converted up", few, MOST_BYTES, 1.0));
 }
 
 /// A line of the table, once all three have written the same.
@@ -67,5 +70,19 @@ fn back(case: &Case) {
         &mut || done(plain::read(black_box(book)).and_then(|contents| plain::write_tuned(&contents, c))),
     ]);
     assert!([a, b, c].iter().all(|room| room.starts_with(book)), "{}", case.name);
+    line(case.name, times, case.target);
+}
+
+/// The same for a book in the other edition.
+fn converted(case: &Case) {
+    let book = &case.bytes[..];
+    let [a, b, c] = &mut [(); 3].map(|()| vec![7; case.room]);
+    let due = convert_into(book, a).map_err(|refusal| (refusal.number(), refusal.place()));
+    assert_eq!([plain::convert(book, b), plain::convert_tuned(book, c)], [due, due], "{}", case.name);
+    assert!(a == b && b == c, "{}", case.name);
+    let times =
+        best([&mut || done(convert_into(black_box(book), a)), &mut || done(plain::convert(black_box(book), b)), &mut || {
+            done(plain::convert_tuned(black_box(book), c))
+        }]);
     line(case.name, times, case.target);
 }

@@ -47,6 +47,12 @@ impl Contents {
         Ok(Contents { edition, year, values: [0, 1, 2, 3, 4].map(value), rows: rows.collect() })
     }
 
+    /// Refusals 5, 7, 8 and 10: what keeps a book that is laid out from being sound.
+    pub fn sound<M: Manner>(&self) -> Result<(), Fault> {
+        self.parameters_in_range()?;
+        self.check_rows::<M>()
+    }
+
     /// Writes the book into the room and returns how many bytes it has; refusals 3, 19, 5, 7, 8, 10 and 20 leave the
     /// room.
     pub fn write<M: Manner>(&self, room: &mut [u8]) -> Result<usize, Fault> {
@@ -56,8 +62,7 @@ impl Contents {
         if self.rows.len() > MOST_OFFERS {
             return Err((19, 0));
         }
-        self.parameters_in_range()?;
-        self.check_rows::<M>()?;
+        self.sound::<M>()?;
         let bytes = BLOCK * (1 + self.rows.len().div_ceil(PLACES));
         let book = room.get_mut(..bytes).ok_or((20, 0))?;
         let (blocks, _) = book.as_chunks_mut::<BLOCK>();
@@ -163,7 +168,7 @@ fn write_rows(block: &mut [u8; BLOCK], number: u16, rows: &[Row], edition: u32) 
     seal(block);
 }
 
-fn seal(block: &mut [u8; BLOCK]) {
+pub fn seal(block: &mut [u8; BLOCK]) {
     let (plain, placed) = sums(block);
     block[508..510].copy_from_slice(&plain.to_le_bytes());
     block[510..].copy_from_slice(&placed.to_le_bytes());

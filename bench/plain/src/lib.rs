@@ -5,6 +5,7 @@
 //! clears in part. Nothing is written into the buffers before the whole book is known to be good.
 //!
 //! `read` and `write` go between a book and what it says: the rows are tested in one pass, and each block is filled and sealed.
+//! `convert` copies a sound book with the other edition and its steps, and seals each block again.
 //!
 //! `clear` finds repeats with the standard HashSet and orders ties with a sort; `clear_tuned` has a quicker hash and a selection.
 //! `price_at` is the curve's price at a quantity, between cents.
@@ -14,6 +15,7 @@ mod block;
 mod book;
 mod comparison;
 mod contents;
+mod converting;
 mod curve;
 mod manner;
 mod parameters;
@@ -86,6 +88,16 @@ pub fn compare_tuned(first: &[u8], second: &[u8]) -> Comparison {
 /// What a book says, or refusals 1, 2 and 3.
 pub fn read(bytes: &[u8]) -> Result<Contents, Fault> {
     Contents::read(bytes)
+}
+
+/// Writes a sound book in the other edition into the room, and returns the count of its bytes. A refusal leaves the room.
+pub fn convert(bytes: &[u8], room: &mut [u8]) -> Result<usize, Fault> {
+    converting::convert::<Usual>(bytes, room)
+}
+
+/// The same, with a quicker hash.
+pub fn convert_tuned(bytes: &[u8], room: &mut [u8]) -> Result<usize, Fault> {
+    converting::convert::<Tuned>(bytes, room)
 }
 
 /// Writes the book that says these contents into the room, and returns the count of its bytes. A refusal leaves the room.

@@ -1,9 +1,10 @@
-//! The same books as the oracle's, and the same room, from 20,000 random contents; and what is read of them.
+//! The same books as the oracle's, and the same room, from 20,000 random contents; and what is read of them; and 20,000 random books
+//! in the other edition.
 
 use oracle::book::{Book, Offer};
 use oracle::random::contents::contents;
-use oracle::random::Rng;
-use plain::{read, write, write_tuned, Contents, Row};
+use oracle::random::{call, Rng};
+use plain::{convert, convert_tuned, read, write, write_tuned, Contents, Row};
 
 fn said(book: &Book) -> Contents {
     let row = |offer: &Offer| {
@@ -32,6 +33,25 @@ fn random_contents() {
             let mut room = vec![0xA5; length];
             assert_eq!(write(&contents, &mut room), due.as_ref().map(Vec::len).map_err(|&fault| fault), "turn {turn}");
             assert!(room == kept, "turn {turn}");
+        }
+    }
+}
+
+#[test]
+fn random_books_in_the_other_edition() {
+    let mut rng = Rng::new(7);
+    for seed in 0..20_000 {
+        let book = call(seed).book;
+        let length = rng.pick(&[book.len(), book.len(), book.len() + 9, book.len().saturating_sub(1), 0]);
+        let due = oracle::convert(&book, length);
+        let mut kept = vec![0xA5; length];
+        if let Ok(other) = &due {
+            kept[..other.len()].copy_from_slice(other);
+        }
+        for convert in [convert, convert_tuned] {
+            let mut room = vec![0xA5; length];
+            assert_eq!(convert(&book, &mut room), due.as_ref().map(Vec::len).map_err(|&fault| fault), "seed {seed}");
+            assert!(room == kept, "seed {seed}");
         }
     }
 }

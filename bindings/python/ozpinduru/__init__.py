@@ -8,15 +8,16 @@ from ._book import Book, Offer, Parameters, read
 from ._calendar import days
 from ._clearing import Clearing, Columns, Quote, Row, clear, clear_columns, quote
 from ._comparison import Comparison, RefusedBook, compare
+from ._converting import convert
 from ._curve import Curve, ExactPrice, curve, price_at
 from ._refusal import Fault, Refusal, report, version, words
 from ._writing import write
 from .picture import chart
 
-__version__ = "0.7.0"
+__version__ = "0.8.0"
 __all__ = [
     "Book", "Clearing", "Columns", "Comparison", "Curve", "ExactPrice", "Fault", "Offer", "Parameters", "Quote", "Refusal",
     "RefusedBook", "Row",
-    "chart", "clear", "clear_columns", "compare", "curve", "days", "price_at", "quote", "read", "report", "version", "words",
+    "chart", "clear", "clear_columns", "compare", "convert", "curve", "days", "price_at", "quote", "read", "report", "version", "words",
     "write",
 ]

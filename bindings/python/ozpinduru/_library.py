@@ -6,7 +6,7 @@ import os
 import pathlib
 from typing import Any
 
-VERSION = (0, 7, 0)
+VERSION = (0, 8, 0)
 
 # kinds
 GIVEN, NONE, REFUSED, MISSING, DIFFERS = 1, 2, 3, 4, 5
@@ -43,6 +43,7 @@ def _declared(c: ctypes.CDLL) -> ctypes.CDLL:
         ("quote", Answer, book),
         ("read", Contents, book + buffer),
         ("write", Text, [_word, Parameters] + buffer + buffer),
+        ("convert", Text, book + buffer),
         ("compare", Comparison, book + book),
         ("curve", CurvePoints, [Parameters]),
         ("price_at", CurvePrice, [Parameters, _word]),

@@ -24,6 +24,7 @@ class Fault(enum.IntEnum):
     REPEATED_RESOURCE = 8
     SHORT_BUFFER = 9
     BROKEN_STEPS = 10
+    LATER_STEP = 11
     TOO_MANY_ROWS = 19
     SHORT_ROOM = 20
 

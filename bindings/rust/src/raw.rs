@@ -98,6 +98,7 @@ extern "C" {
         room: *mut u8,
         room_bytes: usize,
     ) -> Text;
+    pub fn ozp_convert(book: *const u8, book_bytes: usize, room: *mut u8, room_bytes: usize) -> Text;
     pub fn ozp_compare(first: *const u8, first_bytes: usize, second: *const u8, second_bytes: usize) -> Comparison;
     pub fn ozp_curve(parameters: Parameters) -> CurvePoints;
     pub fn ozp_price_at(parameters: Parameters, k: u32) -> CurvePrice;

@@ -30,6 +30,8 @@ pub enum Refusal {
     /// 10: a resource's steps do not stand in neighbouring rows counted up from 1, their prices fall, or a step past 1 has a
     /// minimum block.
     BrokenSteps { row: u32 },
+    /// 11: a row has a step of 2 or more, which edition 1 cannot hold.
+    LaterStep { row: u32 },
     /// 19: more than 600 rows.
     TooManyRows,
     /// 20: the room lent is too small.
@@ -82,6 +84,7 @@ impl Refusal {
             Refusal::RepeatedResource { .. } => 8,
             Refusal::ShortBuffer(_) => 9,
             Refusal::BrokenSteps { .. } => 10,
+            Refusal::LaterStep { .. } => 11,
             Refusal::TooManyRows => 19,
             Refusal::ShortRoom => 20,
             Refusal::Unnamed { number, .. } => number,
@@ -95,7 +98,7 @@ impl Refusal {
             Refusal::WrongCheck { block } | Refusal::WrongLayout { block } => block,
             Refusal::MissingParameter(field) | Refusal::ParameterOutOfRange(field) => field as u32,
             Refusal::UnpricedOffer { row } | Refusal::OfferOutOfRange { row } => row,
-            Refusal::RepeatedResource { row } | Refusal::BrokenSteps { row } => row,
+            Refusal::RepeatedResource { row } | Refusal::BrokenSteps { row } | Refusal::LaterStep { row } => row,
             Refusal::ShortBuffer(buffer) => buffer as u32,
             Refusal::Unnamed { place, .. } => place,
         }
@@ -115,6 +118,7 @@ impl Refusal {
             8 => Some(Refusal::RepeatedResource { row: place }),
             9 => BUFFERS.get(at).copied().map(Refusal::ShortBuffer),
             10 => Some(Refusal::BrokenSteps { row: place }),
+            11 => Some(Refusal::LaterStep { row: place }),
             19 if place == 0 => Some(Refusal::TooManyRows),
             20 if place == 0 => Some(Refusal::ShortRoom),
             _ => None,
@@ -155,6 +159,7 @@ impl fmt::Display for Refusal {
             Refusal::MissingParameter(field) | Refusal::ParameterOutOfRange(field) => write!(f, "field {place} ({field})"),
             Refusal::UnpricedOffer { .. } | Refusal::OfferOutOfRange { .. } => write!(f, "row {place}"),
             Refusal::RepeatedResource { .. } | Refusal::BrokenSteps { .. } => write!(f, "row {place}"),
+            Refusal::LaterStep { .. } => write!(f, "row {place}"),
             Refusal::ShortBuffer(buffer) => write!(f, "buffer {place} ({buffer})"),
             _ => write!(f, "{place}"),
         }?;

@@ -53,7 +53,7 @@ pub fn write_into(edition: Edition, parameters: &Parameters, offers: &[Offer], r
 
 /// The count of the bytes that a call has written.
 #[inline]
-fn counted(text: raw::Text) -> Result<usize, Refusal> {
+pub(crate) fn counted(text: raw::Text) -> Result<usize, Refusal> {
     match text.kind {
         raw::GIVEN => Ok(text.bytes as usize),
         raw::REFUSED => Err(Refusal::of(text.number, text.place)),

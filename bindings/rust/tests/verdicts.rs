@@ -69,6 +69,7 @@ fn numbers_and_places_make_their_refusal_again() {
         (8, 1),
         (9, 2),
         (10, 599),
+        (11, 1),
         (19, 0),
         (20, 0),
         (9, 3),
@@ -79,6 +80,10 @@ fn numbers_and_places_make_their_refusal_again() {
         assert_eq!(matches!(refusal, Refusal::Unnamed { .. }), number == 77 || place == 3);
     }
     assert_eq!(Refusal::of(9, 1).to_string(), "refused 9 at buffer 1 (cleared): a result buffer has fewer entries than offers");
+    assert_eq!(
+        Refusal::of(11, 4).to_string(),
+        "refused 11 at row 4: a row has a step of 2 or more, which edition 1 cannot hold"
+    );
     assert_eq!(Refusal::of(19, 0).to_string(), "refused 19 at 0: more than 600 rows");
     assert_eq!(Refusal::of(20, 0).to_string(), "refused 20 at 0: the room lent is too small");
 }

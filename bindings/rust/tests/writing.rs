@@ -1,7 +1,10 @@
 //! Writing books through the C interface.
 
 use ozpinduru::Edition::{First, Second};
-use ozpinduru::{read, write, write_into, CentsPerMwDay, DollarsPerMwYear, Field, Offer, Parameters, Refusal, Tenths};
+use ozpinduru::{
+    clear, convert, convert_into, read, write, write_into, CentsPerMwDay, DollarsPerMwYear, Field, Offer, Parameters, Refusal,
+    Tenths,
+};
 use ozpinduru::{MOST_BYTES, MOST_ROWS, MOST_STEPS};
 use std::ffi::OsStr;
 use std::path::{Path, PathBuf};
@@ -133,4 +136,40 @@ fn steps_that_break_their_rules_are_refused() {
     assert_eq!(broken(|offers| offers.retain(|offer| offer.step != 1)), Err(Refusal::BrokenSteps { row: 0 }));
     assert_eq!(broken(|offers| offers[1].step = 1), Err(Refusal::RepeatedResource { row: 1 }));
     assert_eq!(broken(|offers| (offers[1].price, offers[2].price) = (None, Some(CentsPerMwDay(0)))), Ok(()));
+}
+
+#[test]
+fn every_sound_book_that_ships_goes_there_and_back() {
+    let (mut up, mut down, mut later) = (0, 0, 0);
+    for path in shipped() {
+        let bytes = fs::read(&path).unwrap();
+        match (convert(&bytes), read(&bytes).and_then(|book| write(book.edition, &book.parameters, &book.offers))) {
+            (Ok(other), Ok(_)) => {
+                let (one, two) = (read(&bytes).unwrap(), read(&other).unwrap());
+                assert_eq!((one.parameters, &one.offers), (two.parameters, &two.offers), "{}", path.display());
+                assert_ne!(one.edition, two.edition, "{}", path.display());
+                assert_eq!(clear(&other), clear(&bytes), "{}", path.display());
+                assert!(convert(&other).unwrap() == bytes, "{}", path.display());
+                *(if one.edition == First { &mut up } else { &mut down }) += 1;
+            }
+            (Err(Refusal::LaterStep { row }), Ok(_)) => {
+                let steps = read(&bytes).unwrap().offers.iter().position(|offer| offer.step > 1);
+                assert_eq!(steps, Some(row as usize), "{}", path.display());
+                later += 1;
+            }
+            (found, due) => assert_eq!(found.unwrap_err(), due.unwrap_err(), "{}", path.display()),
+        }
+    }
+    assert!(up >= 90 && down >= 4 && later >= 10, "{up} up, {down} down, {later} with later steps");
+}
+
+#[test]
+fn room_for_the_other_edition() {
+    let bytes = write(First, &NONE, &rows(16)).unwrap();
+    let mut room = vec![0xA5; bytes.len() + 9];
+    assert_eq!(convert_into(&bytes, &mut room[..bytes.len() - 1]), Err(Refusal::ShortRoom));
+    assert!(room.iter().all(|&byte| byte == 0xA5));
+    assert_eq!(convert_into(&bytes, &mut room), Ok(bytes.len()));
+    assert!(room[..bytes.len()] == convert(&bytes).unwrap() && room[bytes.len()..].iter().all(|&byte| byte == 0xA5));
+    assert_eq!(convert(&vec![0; 100_000]), Err(Refusal::WrongLength));
 }

@@ -1,6 +1,6 @@
 -- The book that says given contents passes refusals 1, 2 and 3.
 --
--- In order: a row of tests that all pass; the checks; the length; the edition and the number of offers; the layout; the form.
+-- In order: the checks; the length; the edition and the number of offers; the layout; the form.
 -- Assumes nothing.
 use mathlib.Core.Path.{_≡_, sym, ap, ap₂, _∙_}
 use mathlib.Core.Bool.{true}
@@ -17,7 +17,7 @@ use Rattle.values.specs.Contents.{Contents, offerAt}
 use Rattle.values.specs.declared.Verdict.{Verdict}
 use Rattle.values.specs.declared.Verdict.the-variants.{Passed}
 use Rattle.values.specs.declared.place.Offer.{Offer}
-use Rattle.values.proofs.Firsts.{unless-true, andThen-next, first-zero, first-suc}
+use Rattle.values.proofs.Firsts.{unless-true, andThen-next, first-all}
 use Rattle.sections.specs.Blocks.{blockCount, blockOf}
 use Rattle.sections.specs.Section.{blocksFor, rowsHere, rowsHold, blockFault, sectionFault}
 use Rattle.layout.specs.Layout.{headHolds}
@@ -32,14 +32,6 @@ use Rattle.encoding.proofs.Rows.{check-block}
 use Rattle.encoding.proofs.RowsHold.{rows-hold}
 use Rattle.encoding.proofs.Book.{offersHere, length-offersHere, offersHere-most, offer-here}
 use Rattle.encoding.proofs.Book.{encode-length, encode-first, encode-block}
-
--- where each of a row of tests passes, all do
-first-all : (test : ℕ → Verdict) (n : ℕ) → ((i : ℕ) → i < n → test i ≡ Passed) → first test n ≡ Passed
-first-all test zero h = first-zero test
-first-all test (suc n) h =
-    first-suc test n
-    ∙ andThen-next (first test n) (test n) (first-all test n (λ i l. h i (omega arith)))
-    ∙ h n (omega arith)
 
 module _ (c : Contents) where
   abbrev b : List ℕ

@@ -33,7 +33,7 @@ use Rattle.lent.proofs.Writes.{finished-wrote}
 abbrev pub placed : ℕ → List OzpRow → ℕ → List ℕ
 placed edition rows i = putRows (zeros 20992) edition 0 (take i (map offerIn rows))
 
-zeros-are : (n : ℕ) → replicate n 0 ≡ zeros n
+pub zeros-are : (n : ℕ) → replicate n 0 ≡ zeros n
 unfolding zeros
 zeros-are zero = refl
 zeros-are (suc n) = ap (λ (s : List ℕ). 0 ∷ s) (zeros-are n)

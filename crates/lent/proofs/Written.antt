@@ -37,14 +37,14 @@ use Rattle.lent.proofs.Writes.{given-passed, passed-fits}
 
 -- ---- a verdict, by what is answered of it
 
-refused-by : (v : Verdict) (n number place : ℕ) → textBy v (textGiven n) ≡ textRefused number place → v ≡ Refused number place
+pub refused-by : (v : Verdict) (n number place : ℕ) → textBy v (textGiven n) ≡ textRefused number place → v ≡ Refused number place
 refused-by Passed n number place e = absurd (omega (arith, ap (λ (t : OzpText). t .kind) e))
 refused-by (Refused m p) n number place e =
     let f : m ≡ number = ap (λ (t : OzpText). t .number) e in
     let g : p ≡ place = ap (λ (t : OzpText). t .place) e in
     rw (f, g) refl
 
-passed-by : (v : Verdict) (n : ℕ) → textBy v (textGiven n) .kind ≡ 1 → v ≡ Passed
+pub passed-by : (v : Verdict) (n : ℕ) → textBy v (textGiven n) .kind ≡ 1 → v ≡ Passed
 passed-by Passed n e = refl
 passed-by (Refused m p) n e = absurd (omega (arith, e))
 

@@ -24,7 +24,7 @@ use Rattle.plain.specs.Listed.{Read}
 use Rattle.words.proofs.Decided.{told-same}
 use Rattle.plain.specs.Given.{contentsIn}
 use Rattle.lent.specs.Wrote.{Wrote}
-use Rattle.lent.proofs.Decided.{wrote-same}
+use Rattle.lent.proofs.Decided.{wrote-same, converted-same}
 use Rattle.plain.specs.declared.structs.OzpAnswer.{OzpAnswer}
 use Rattle.plain.specs.declared.structs.OzpContents.{OzpContents}
 use Rattle.plain.specs.declared.structs.OzpCurve.{OzpCurve}
@@ -40,6 +40,7 @@ use Rattle.ozpinduru.proofs.export.ozp_price_at.Reads as ozp-price-at
 use Rattle.ozpinduru.proofs.export.ozp_quote.Reads as ozp-quote
 use Rattle.ozpinduru.proofs.export.ozp_version.Reads as ozp-version
 use Rattle.ozpinduru.proofs.texts.ozp_report.Reads as ozp-report
+use Rattle.ozpinduru.proofs.convert.ozp_convert.Reads as ozp-convert
 use Rattle.ozpinduru.proofs.texts.ozp_words.Reads as ozp-words
 use Rattle.ozpinduru.proofs.read.ozp_read as ozp-read
 use Rattle.ozpinduru.proofs.write.ozp_write as ozp-write
@@ -157,3 +158,11 @@ module _ {M : Type 1} (𝓤 : URA M) (H : Heap 𝓤) (A : Atoms 𝓤) (mem : Mem
       guard-conj 𝓤 (Wrote (contentsIn edition p (now rows₁)) (now room₁) r room₁′) (emp 𝓤) (Written rows₂ room₂ s room₂′)
       (λ x. conj-guard 𝓤 (Wrote (contentsIn edition p (now rows₂)) (now room₂) s room₂′) (emp 𝓤) (emp 𝓤)
       (λ y. factI 𝓤 _ _ (wrote-same (contentsIn edition p (now rows₁)) (now room₁) r s room₁′ room₂′ x (rw (e, f) y))))
+
+-- the book in the other edition and the room, by the contract of `ozp_convert`
+pub ozp-convert-decided : (κs : Lfts 2) (book₁ book₂ room₁ room₂ room₁′ room₂′ : RefT (List ℕ)) (r s : OzpText)
+    → now book₁ ≡ now book₂ → now room₁ ≡ now room₂
+    → ozp-convert.Post κs (book₁, (room₁, tt)) r (book₁, (room₁′, tt))
+    → ozp-convert.Post κs (book₂, (room₂, tt)) s (book₂, (room₂′, tt))
+    → (r ≡ s) × (now room₁′ ≡ now room₂′)
+ozp-convert-decided κs book₁ book₂ room₁ room₂ room₁′ room₂′ r s e f x y = converted-same (now book₁) (now room₁) _ _ _ _ x (rw (e, f) y)

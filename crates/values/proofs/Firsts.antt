@@ -90,6 +90,14 @@ first-at test (suc n) i e l =
     (λ h. let same : i ≡ n = omega arith in rw same (andThen-right (first test n) (test n) both))
     (λ h. first-at test n i (andThen-left (first test n) (test n) both) h)
 
+-- where each of a row of tests passes, all do
+pub first-all : (test : ℕ → Verdict) (n : ℕ) → ((i : ℕ) → i < n → test i ≡ Passed) → first test n ≡ Passed
+first-all test zero h = first-zero test
+first-all test (suc n) h =
+    first-suc test n
+    ∙ andThen-next (first test n) (test n) (first-all test n (λ i l. h i (omega arith)))
+    ∙ h n (omega arith)
+
 -- what refused among the first n tests stays the answer among more of them
 pub first-stays : (test : ℕ → Verdict) (n m number place : ℕ) → n ≤ m
     → first test n ≡ Refused number place → first test m ≡ Refused number place

@@ -49,6 +49,10 @@ shortBuffer buffer = Refused 9 buffer
 abbrev pub brokenSteps : ℕ → Verdict
 brokenSteps row = Refused 10 row
 
+-- 11: a book that goes to edition 1 has a step of 2 or more; the row
+abbrev pub severalSteps : ℕ → Verdict
+severalSteps row = Refused 11 row
+
 -- 19: more than 600 rows are to be written; place 0
 abbrev pub tooManyRows : Verdict
 tooManyRows = Refused 19 0

@@ -61,9 +61,9 @@ words-known e = ap (λ n. bytesOf (wordsOf n)) (sym e)
 
 -- a number that no refusal has
 pub words-none : (n : ℕ) → (n ≡ 1 → ⊥) → (n ≡ 2 → ⊥) → (n ≡ 3 → ⊥) → (n ≡ 4 → ⊥) → (n ≡ 5 → ⊥) → (n ≡ 6 → ⊥) → (n ≡ 7 → ⊥)
-    → (n ≡ 8 → ⊥) → (n ≡ 9 → ⊥) → (n ≡ 10 → ⊥) → (n ≡ 19 → ⊥) → (n ≡ 20 → ⊥) → bytesOf (wordsOf n) ≡ []
+    → (n ≡ 8 → ⊥) → (n ≡ 9 → ⊥) → (n ≡ 10 → ⊥) → (n ≡ 11 → ⊥) → (n ≡ 19 → ⊥) → (n ≡ 20 → ⊥) → bytesOf (wordsOf n) ≡ []
 unfolding wordsOf bytesOf
-words-none n a b c d e f g h i j k l =
+words-none n a b c d e f g h i j k l m =
     rw (
       ne-eqb n 1 a,
       ne-eqb n 2 b,
@@ -75,8 +75,9 @@ words-none n a b c d e f g h i j k l =
       ne-eqb n 8 h,
       ne-eqb n 9 i,
       ne-eqb n 10 j,
-      ne-eqb n 19 k,
-      ne-eqb n 20 l,
+      ne-eqb n 11 k,
+      ne-eqb n 19 l,
+      ne-eqb n 20 m,
     )
 
 -- ---- room for every refusal's words
@@ -102,8 +103,9 @@ all-short n =
     (either-short (eqb n 8) _ _ refl
     (either-short (eqb n 9) _ _ refl
     (either-short (eqb n 10) _ _ refl
+    (either-short (eqb n 11) _ _ refl
     (either-short (eqb n 19) _ _ refl
-    (either-short (eqb n 20) _ _ refl refl)))))))))))
+    (either-short (eqb n 20) _ _ refl refl))))))))))))
 
 -- Room of 256 bytes holds the words of every number.
 pub words-fit : (n : ℕ) → length (bytesOf (wordsOf n)) ≤ 256

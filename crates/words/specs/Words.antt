@@ -26,6 +26,7 @@ wordsOf number =
     (cond (eqb number 8) "a resource number stands in an earlier row; the row"
     (cond (eqb number 9) "a result buffer has fewer entries than offers; 1 cleared, 2 committed"
     (cond (eqb number 10) "a resource's steps do not stand in neighbouring rows counted up from 1, their prices fall, or a step past 1 has a minimum block; the row"
+    (cond (eqb number 11) "a row has a step of 2 or more, which edition 1 cannot hold; the row"
     (cond (eqb number 19) "more than 600 rows; 0"
     (cond (eqb number 20) "the room lent is too small; 0"
-    "")))))))))))
+    ""))))))))))))

@@ -84,6 +84,10 @@ pub fn words(number: u32, room: &mut [u8]) -> OzpText
             room,
             b"a resource's steps do not stand in neighbouring rows counted up from 1, their prices fall, or a step past 1 has a minimum block; the row",
         ),
+        11 => put_text(
+            room,
+            b"a row has a step of 2 or more, which edition 1 cannot hold; the row",
+        ),
         19 => put_text(room, b"more than 600 rows; 0"),
         20 => put_text(room, b"the room lent is too small; 0"),
         _ => no_text(),

@@ -4,6 +4,7 @@
 //! differential layouts: prints the size of every struct and the offset of every field, as tests/layouts does in C and Python.
 
 mod compare;
+mod converting;
 mod curve;
 mod days;
 mod kinds;

@@ -5,12 +5,13 @@
 //! - `printed`: what the program `clear` prints for a book.
 //! - `row`: what the reader hands back for a row.
 //! - `write`: the book that says given values, or a refusal.
+//! - `convert`: a sound book in the other edition, or a refusal.
 //! - `curve`, `curve_by_margin`, `price_at`, `exact_price_at`: the requirement curve, and its price in whole cents and between them.
 //! - `comparison::compare`: whether losers matter between two books.
 //!
 //! The rest by module: `book` reads and checks bytes, `parameters` selects the curve, `limits` holds the ranges, `calendar` the
 //! days of delivery years, `clearing` is the auction as a function of a falling curve and priced offers, `make` writes books,
-//! sound or not, `writing` refuses what no sound book says, `random` makes books, calls and contents from a seed.
+//! sound or not, `writing` refuses what no sound book says, `converting` goes between editions, `random` makes books, calls and contents from a seed.
 //!
 //! Every sentence of the outline is written as directly as it can be read. Speed comes second. `cargo test --release` here runs
 //! the outline's cases, an exhaustive search over small auctions, and the books of crates/verdicts/data.
@@ -19,6 +20,7 @@ pub mod book;
 pub mod calendar;
 pub mod clearing;
 pub mod comparison;
+pub mod converting;
 pub mod curve;
 pub mod exact;
 pub mod limits;
@@ -27,6 +29,7 @@ pub mod parameters;
 pub mod random;
 pub mod writing;
 
+pub use converting::convert;
 pub use curve::{curve, curve_by_margin, price_at, Point};
 pub use exact::{exact_price_at, ExactPrice};
 pub use writing::write;

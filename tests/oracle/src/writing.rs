@@ -19,7 +19,7 @@ pub fn write(book: &Book, room_len: usize) -> Result<Vec<u8>, Fault> {
 }
 
 /// A finished book, if the room is large enough for it.
-fn fitted(bytes: Vec<u8>, room_len: usize) -> Result<Vec<u8>, Fault> {
+pub(crate) fn fitted(bytes: Vec<u8>, room_len: usize) -> Result<Vec<u8>, Fault> {
     if bytes.len() > room_len {
         Err((20, 0))
     } else {

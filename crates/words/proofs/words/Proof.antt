@@ -80,6 +80,12 @@ slice-aggregate-put-text-12 c = search needs
 put-text-requires-12 : tie.Need-put-text-requires-12
 put-text-requires-12 c κs = search needs
 
+slice-aggregate-put-text-13 : tie.Need-slice-aggregate-put-text-13
+slice-aggregate-put-text-13 c = search needs
+
+put-text-requires-13 : tie.Need-put-text-requires-13
+put-text-requires-13 c κs = search needs
+
 no-text-requires : tie.Need-no-text-requires
 no-text-requires c κs = search needs
 
@@ -167,11 +173,18 @@ returns-12 : tie.Need-returns-12
 unfolding bytesOf wordsOf
 returns-12 c = told-as (words-known (c .before .before .before .before .before .match .keys12)) (c .before .before .put-text12 .ensures)
 
+same-length-13 : tie.Need-same-length-13
+same-length-13 c = search needs
+
 returns-13 : tie.Need-returns-13
-returns-13 c =
+unfolding bytesOf wordsOf
+returns-13 c = told-as (words-known (c .before .before .before .before .before .match .keys13)) (c .before .before .put-text13 .ensures)
+
+returns-14 : tie.Need-returns-14
+returns-14 c =
     let m = c .before .match .rest in
     rw (c .no-text .ensures)
-    (told-none _ _ (ap length (words-none _ (m .0 .0 .0 .0 .0 .0 .0 .0 .0 .0 .0 .1) (m .0 .0 .0 .0 .0 .0 .0 .0 .0 .0 .1) (m .0 .0 .0 .0 .0 .0 .0 .0 .0 .1) (m .0 .0 .0 .0 .0 .0 .0 .0 .1) (m .0 .0 .0 .0 .0 .0 .0 .1) (m .0 .0 .0 .0 .0 .0 .1) (m .0 .0 .0 .0 .0 .1) (m .0 .0 .0 .0 .1) (m .0 .0 .0 .1) (m .0 .0 .1) (m .0 .1) (m .1))))
+    (told-none _ _ (ap length (words-none _ (m .0 .0 .0 .0 .0 .0 .0 .0 .0 .0 .0 .0 .1) (m .0 .0 .0 .0 .0 .0 .0 .0 .0 .0 .0 .1) (m .0 .0 .0 .0 .0 .0 .0 .0 .0 .0 .1) (m .0 .0 .0 .0 .0 .0 .0 .0 .0 .1) (m .0 .0 .0 .0 .0 .0 .0 .0 .1) (m .0 .0 .0 .0 .0 .0 .0 .1) (m .0 .0 .0 .0 .0 .0 .1) (m .0 .0 .0 .0 .0 .1) (m .0 .0 .0 .0 .1) (m .0 .0 .0 .1) (m .0 .0 .1) (m .0 .1) (m .1))))
 
 pub words-spec : {M : Type 1} → statement M
 words-spec =
@@ -201,6 +214,8 @@ words-spec =
     put-text-requires-11
     slice-aggregate-put-text-12
     put-text-requires-12
+    slice-aggregate-put-text-13
+    put-text-requires-13
     no-text-requires
     same-length
     returns
@@ -226,4 +241,6 @@ words-spec =
     returns-11
     same-length-12
     returns-12
-    returns-13)
+    same-length-13
+    returns-13
+    returns-14)

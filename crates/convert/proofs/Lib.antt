@@ -1,0 +1,7 @@
+pub mod Other
+pub mod Converted
+pub mod Refused
+mod Putting
+pub mod Told
+pub mod Made
+pub mod Decided

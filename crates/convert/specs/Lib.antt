@@ -1,0 +1,2 @@
+pub mod Convert
+pub mod inner
