@@ -1,11 +1,10 @@
 -- Rows of a book, put one after another into the places of another.
 --
--- In order: no row; one row more; how long the bytes stay.
+-- In order: no row; a list of one value more; the offer of a row; one row more.
 -- Assumes nothing.
 use mathlib.Core.Path.{_≡_, refl, sym, ap, ap₂, _∙_}
 use mathlib.Core.List.{List, [], _∷_, _++_}
 use Prim.Native.Nat.{ℕ, zero, suc, _+_, _<_}
-use native.Mathlib.Nat.{add-zero, zero-add, suc-add, add-suc}
 use native.Mathlib.Numerals.{add-one}
 use native.Mathlib.Omega.{arith}
 use lib.ListN.{length}
@@ -16,6 +15,7 @@ use Rattle.sections.specs.Blocks.{rowBytes}
 use Rattle.layout.specs.Read.{rowOffer, rowOffers}
 use Rattle.layout.proofs.Contained.{length-rowOffers}
 use Rattle.places.specs.inner.Rows.{putRow, putRows}
+use Rattle.places.proofs.Rows.{rows-one}
 
 pub put-none : (b made : List ℕ) (edition other : ℕ) → made ≡ putRows made other 0 (rowOffers b edition 1 0)
 unfolding rowOffers putRows listOf
@@ -33,16 +33,7 @@ pub row-own : (b : List ℕ) (edition row : ℕ) {part : List ℕ} {o : Offer} �
 unfolding rowOffer
 row-own b edition row p e = rw (e, p) refl
 
--- one row more, at the end
-rows-one : (made : List ℕ) (edition i : ℕ) (offers : List Offer) (o : Offer)
-    → putRow (putRows made edition i offers) edition (i + length offers) o ≡ putRows made edition i (offers ++ o ∷ [])
-unfolding putRows
-rows-one made edition i [] o = ap (λ (j : ℕ). putRow made edition j o) (add-zero i)
-rows-one made edition i (p ∷ offers) o =
-    ap (λ (j : ℕ). putRow (putRows (putRow made edition i p) edition (suc i) offers) edition j o)
-    (add-suc i (length offers) ∙ sym (suc-add i (length offers)))
-    ∙ rows-one (putRow made edition i p) edition (suc i) offers o
-
+-- one row more
 pub put-more : (b made : List ℕ) (edition other row : ℕ) {now next : List ℕ} {o : Offer}
     → now ≡ putRows made other 0 (rowOffers b edition 1 row) → o ≡ rowOffer b edition 1 row → next ≡ putRow now other row o
     → next ≡ putRows made other 0 (rowOffers b edition 1 (row + 1))
@@ -52,5 +43,5 @@ put-more b made edition other row {now} {next} {o} e f g =
     g
     ∙ ap₂ (λ (s : List ℕ) (p : Offer). putRow s other row p) e f
     ∙ ap (λ (i : ℕ). putRow (putRows made other 0 (rowOffers b edition 1 row)) other i (rowOffer b edition 1 row)) count
-    ∙ rows-one made other 0 (rowOffers b edition 1 row) (rowOffer b edition 1 row)
+    ∙ rows-one other made 0 (rowOffers b edition 1 row) (rowOffer b edition 1 row)
     ∙ ap (putRows made other 0) (listOf-last (rowOffer b edition 1) row ∙ ap (listOf (rowOffer b edition 1)) (sym (add-one row)))

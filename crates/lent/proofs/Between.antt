@@ -1,31 +1,22 @@
 -- REQUEST 07. What is known of a book that was converted, from the contract of the call that converts it.
 --
 -- In order: when the call refuses, and what it leaves then; the bytes that it wrote; they are a sound book that says the same; converted
--- again they are the book that was given; clearing answers the same of both.
+-- again they are the book that was given.
 -- Assumes nothing.
-use mathlib.Core.Path.{_≡_, refl, sym, ap, _∙_}
+use mathlib.Core.Path.{_≡_, sym, ap, _∙_}
 use mathlib.Core.List.{List, _++_}
 use Prim.Native.Nat.{ℕ, _≤_, _<_}
-use native.Mathlib.Omega.{arith}
 use lib.ListN.{length, take, drop}
 use lib.Seq.{take-append-seam}
-use contract.Lifetimes.{Lfts}
-use denote.Ref.{RefT, now}
 use Rattle.block.specs.Bytes.{byte}
 use Rattle.values.specs.Refusals.{bufferBy}
 use Rattle.values.specs.declared.Verdict.{Verdict}
 use Rattle.values.specs.declared.Verdict.the-variants.{Passed, Refused}
 use Rattle.values.proofs.Firsts.{andThen-left, andThen-right}
-use Rattle.layout.specs.Form.{formFault}
 use Rattle.layout.specs.Read.{contentsOf}
 use Rattle.book.specs.Faults.{firstFault, soundFault}
-use Rattle.book.proofs.Accepted.{sound-form}
-use Rattle.call.specs.Steps.{SameButEdition}
-use Rattle.call.specs.declared.Answer.{Answer}
-use Rattle.call.proofs.Decided.{Called}
-use Rattle.call.proofs.EitherEdition.{editions-answer-the-same}
 use Rattle.convert.specs.Convert.{inOther, downFault, converted, convertFault}
-use Rattle.convert.proofs.Converted.{ones, converted-said, converted-sound, converted-verdict, converted-length, converted-back, converted-back-passes}
+use Rattle.convert.proofs.Converted.{converted-said, converted-sound, converted-verdict, converted-length, converted-back, converted-back-passes}
 use Rattle.plain.specs.declared.structs.OzpText.{OzpText}
 use Rattle.words.specs.Texts.{textGiven, textRefused, textBy}
 use Rattle.lent.specs.Converted.{Converted}
@@ -94,13 +85,6 @@ module _ (b room : List ℕ) {r : OzpText} {room′ : List ℕ} (k : Converted b
       pub converted-accepted : firstFault (take (r .bytes) room′) ≡ firstFault b
       converted-accepted = ap firstFault converted-bytes ∙ converted-verdict b bytes convert-sound convert-down
 
-      -- the contents of both differ in the edition alone
-      same-but-edition : SameButEdition (contentsOf b) (contentsOf (take (r .bytes) room′))
-      unfolding inOther
-      same-but-edition =
-          rw converted-says
-          record { parameters = refl; offers = refl; step = ones b bytes convert-sound convert-down }
-
 -- Going up and down, or down and up, returns the same bytes: wherever there is room for them the converted book is converted back,
 -- and nothing refuses it.
 pub there-and-back : (b room again : List ℕ) {r s : OzpText} {room′ again′ : List ℕ}
@@ -112,18 +96,3 @@ there-and-back b room again bytes k done long x =
     let down = convert-down b room k done in
     rw (converted-back b bytes sound down) at
     (convert-passed (converted b) again (rw (converted-bytes b room k done) at x) (converted-back-passes b bytes sound down (length again) long))
-
--- Clearing answers the same before and after: of a book and of what it was converted to, two calls on buffers that hold the same give
--- the same answer and leave the same in both buffers.
-pub converted-answers-the-same : (κs κs′ : Lfts 3) (book book′ cleared committed cleared₀ committed₀ : RefT (List ℕ))
-    (cleared₁ committed₁ cleared₂ committed₂ : RefT (List ℕ)) (a a′ : Answer) (room : List ℕ) {r : OzpText} {room′ : List ℕ}
-    → ((i : ℕ) → i < length (now book) → byte (now book) i < 256)
-    → Converted (now book) room r room′ → r .kind ≡ 1 → now book′ ≡ take (r .bytes) room′
-    → now cleared ≡ now cleared₀ → now committed ≡ now committed₀
-    → Called κs book cleared committed cleared₁ committed₁ a → Called κs′ book′ cleared₀ committed₀ cleared₂ committed₂ a′
-    → (a ≡ a′) × (now cleared₁ ≡ now cleared₂) × (now committed₁ ≡ now committed₂)
-converted-answers-the-same κs κs′ book book′ cleared committed cleared₀ committed₀ cleared₁ committed₁ cleared₂ committed₂ a a′ room bytes k done same =
-    editions-answer-the-same κs κs′ book book′ cleared committed cleared₀ committed₀ cleared₁ committed₁ cleared₂ committed₂ a a′
-    (sound-form (now book) (convert-sound (now book) room k done))
-    (rw same (sound-form _ (converted-is-sound (now book) room k done bytes)))
-    (rw same (same-but-edition (now book) room k done bytes))

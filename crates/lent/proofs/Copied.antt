@@ -17,12 +17,12 @@ use Rattle.block.specs.Bytes.{byte}
 use Rattle.layout.specs.Read.{contentsOf}
 use Rattle.book.specs.Faults.{soundFault}
 use Rattle.plain.specs.Given.{parametersIn, offerIn, contentsIn}
-use Rattle.plain.specs.Listed.{offerOut, contentsOut, contentsBy, readFault, exportedContents, rowsFilled, filledRows, rowOut, Read}
 use Rattle.plain.specs.declared.structs.OzpContents.{OzpContents}
 use Rattle.plain.specs.declared.structs.OzpRow.{OzpRow}
 use Rattle.plain.specs.declared.structs.OzpText.{OzpText}
-use Rattle.plain.proofs.Listings.{passed-room, length-filled, filled-given}
-use Rattle.plain.proofs.Reread.{parameters-again, offer-again, getD-filled}
+use Rattle.listing.specs.Listed.{offerOut, contentsOut, contentsBy, readFault, exportedContents, rowsFilled, filledRows, rowOut, Read}
+use Rattle.listing.proofs.Listings.{passed-room, length-filled, filled-given}
+use Rattle.listing.proofs.Reread.{parameters-again, offer-again, getD-filled}
 use Rattle.words.specs.Texts.{textGiven}
 use Rattle.lent.specs.Wrote.{Wrote}
 use Rattle.lent.proofs.Written.{sound-written}

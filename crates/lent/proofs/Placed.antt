@@ -6,7 +6,6 @@
 use mathlib.Core.Path.{_≡_, refl, sym, ap, ap₂, _∙_}
 use mathlib.Core.List.{List, [], _∷_, _++_, map}
 use Prim.Native.Nat.{ℕ, zero, suc, _+_, _*_, _≤_, _<_, min}
-use native.Mathlib.Nat.{add-zero, zero-add, suc-add, add-suc}
 use native.Mathlib.Omega.{arith}
 use lib.Dec.{eqb}
 use lib.ListN.{length, getD, take, replicate, length-append, length-take, length-map, List·getD-map}
@@ -18,7 +17,8 @@ use Rattle.encoding.specs.Numbers.{zeros}
 use Rattle.encoding.specs.Widths.{ValueFits, OfferFits}
 use Rattle.encoding.proofs.Digits.{length-zeros}
 use Rattle.places.specs.inner.Rows.{putRow, putRows}
-use Rattle.writer.proofs.Raw.{length-rawBook}
+use Rattle.places.proofs.Rows.{rows-next}
+use Rattle.writer.proofs.Raw.{zeros-are, length-rawBook}
 use Rattle.writer.proofs.Placed.{rows-put}
 use Rattle.plain.specs.Given.{valueIn, offerIn, contentsIn, parametersIn}
 use Rattle.plain.specs.declared.structs.OzpParameters.{OzpParameters}
@@ -33,33 +33,16 @@ use Rattle.lent.proofs.Writes.{finished-wrote}
 abbrev pub placed : ℕ → List OzpRow → ℕ → List ℕ
 placed edition rows i = putRows (zeros 20992) edition 0 (take i (map offerIn rows))
 
-pub zeros-are : (n : ℕ) → replicate n 0 ≡ zeros n
-unfolding zeros
-zeros-are zero = refl
-zeros-are (suc n) = ap (λ (s : List ℕ). 0 ∷ s) (zeros-are n)
-
 pub placed-none : (edition : ℕ) (rows : List OzpRow) → replicate 20992 0 ≡ placed edition rows 0
 unfolding putRows
 placed-none edition rows = zeros-are 20992
 
--- one row more, at the end
-rows-one : (b : List ℕ) (edition i : ℕ) (offers : List Offer) (o : Offer)
-    → putRow (putRows b edition i offers) edition (i + length offers) o ≡ putRows b edition i (offers ++ o ∷ [])
-unfolding putRows
-rows-one b edition i [] o = ap (λ (j : ℕ). putRow b edition j o) (add-zero i)
-rows-one b edition i (p ∷ offers) o =
-    ap (λ (j : ℕ). putRow (putRows (putRow b edition i p) edition (suc i) offers) edition j o) (add-suc i (length offers) ∙ sym (suc-add i (length offers)))
-    ∙ rows-one (putRow b edition i p) edition (suc i) offers o
-
+-- one row more
 pub placed-next : (edition : ℕ) (rows : List OzpRow) (i : ℕ) (d : OzpRow) → i < length rows
     → putRow (placed edition rows i) edition i (offerIn (getD rows i d)) ≡ placed edition rows (suc i)
 placed-next edition rows i d l =
-    let offers : List Offer = map offerIn rows in
-    let many : length offers ≡ length rows = length-map rows offerIn in
-    let count : 0 + length (take i offers) ≡ i = zero-add (length (take i offers)) ∙ length-take-le i offers (omega (arith, many)) in
-    ap₂ (λ (j : ℕ) (o : Offer). putRow (placed edition rows i) edition j o) (sym count) (sym (List·getD-map offerIn rows i d))
-    ∙ rows-one (zeros 20992) edition 0 (take i offers) (getD offers i (offerIn d))
-    ∙ ap (putRows (zeros 20992) edition 0) (sym (take-suc offers i (offerIn d) (omega (arith, many))))
+    ap (putRow (placed edition rows i) edition i) (sym (List·getD-map offerIn rows i d))
+    ∙ rows-next edition (zeros 20992) (map offerIn rows) i (offerIn d) (omega (arith, length-map rows offerIn))
 
 pub length-placed : (edition : ℕ) (rows : List OzpRow) (i : ℕ) → i ≤ 600 → length (placed edition rows i) ≡ 20992
 length-placed edition rows i few =

@@ -95,13 +95,13 @@ module _ (c : Contents) (b room : List ℕ) {r : OzpText} {b′ room′ : List �
       unfolding finishFault writeFault
       same-fault =
           let room-for : ℕ → Verdict = λ k. unless (leb k (length room)) shortRoom in
-          ap₂ (λ (v : Verdict) (k : ℕ). andThen v (room-for k)) (made-fault c few-rows fit b put) (sym (encode-length c))
+          ap₂ (λ (v : Verdict) (k : ℕ). andThen v (room-for k)) (made-fault c few-rows b put fit) (sym (encode-length c))
           ∙ andThen-assoc (editionFault c) _ _
           ∙ ap (andThen (editionFault c)) (andThen-assoc (countFault c) (givenFault c) (room-for (length (encode c))))
 
       wrote-passed : writeFault c (length room) ≡ Passed → Wrote c room r room′
       wrote-passed e =
-          let bytes = made-bytes c few-rows fit b put (given-passed c (length room) e) in
+          let bytes = made-bytes c few-rows b put (given-passed c (length room) e) in
           let found = same-fault ∙ e in
           record {
             answered =

@@ -18,9 +18,9 @@ use denote.Triple.Clauses.{atExit}
 use Rattle.layout.specs.Read.{contentsOf}
 use Rattle.call.specs.Answer.{answerOf}
 use Rattle.report.specs.Report.{reportText}
-use Rattle.plain.specs.Answers.{exported}
+use Rattle.answers.specs.Answers.{exported}
 use Rattle.ozpinduru.specs.Export.{Returned}
-use Rattle.plain.specs.Listed.{Read}
+use Rattle.listing.specs.Listed.{Read}
 use Rattle.words.proofs.Decided.{told-same}
 use Rattle.plain.specs.Given.{contentsIn}
 use Rattle.lent.specs.Wrote.{Wrote}
@@ -40,7 +40,7 @@ use Rattle.ozpinduru.proofs.export.ozp_price_at.Reads as ozp-price-at
 use Rattle.ozpinduru.proofs.export.ozp_quote.Reads as ozp-quote
 use Rattle.ozpinduru.proofs.export.ozp_version.Reads as ozp-version
 use Rattle.ozpinduru.proofs.texts.ozp_report.Reads as ozp-report
-use Rattle.ozpinduru.proofs.convert.ozp_convert.Reads as ozp-convert
+use Rattle.ozpinduru.proofs.converted.ozp_convert.Reads as ozp-convert
 use Rattle.ozpinduru.proofs.texts.ozp_words.Reads as ozp-words
 use Rattle.ozpinduru.proofs.read.ozp_read as ozp-read
 use Rattle.ozpinduru.proofs.write.ozp_write as ozp-write

@@ -31,11 +31,12 @@ use Rattle.call.specs.Answer.{answerBy, answerOf, callFault}
 use Rattle.call.specs.declared.Answer.{Answer}
 use Rattle.call.specs.declared.Answer.the-variants.{Cleared as Answer·Cleared}
 use Rattle.call.proofs.Calls.{passed-callable}
-use Rattle.plain.specs.Answers.{exported, exportedMakeWhole, noAmount}
-use Rattle.plain.proofs.Shows.{rows-stated}
-use Rattle.ozpinduru.specs.Export.{answerTo}
-use Rattle.plain.specs.inner.Answers.{rowsStated}
+use Rattle.plain.specs.Structs.{noAmount}
 use Rattle.plain.specs.Plotted.{pointsOf, pointsRefused, exportedCurve, plottedPrice, priceRefused, exportedPrice}
+use Rattle.answers.specs.Answers.{exported, exportedMakeWhole}
+use Rattle.answers.specs.inner.Answers.{rowsStated}
+use Rattle.answers.proofs.Shows.{rows-stated}
+use Rattle.ozpinduru.specs.Export.{answerTo}
 
 -- ---- the number of rows
 

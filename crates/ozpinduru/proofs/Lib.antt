@@ -2,3 +2,4 @@ pub mod Exports
 pub mod BookArray
 pub mod Decided
 pub mod Comparisons
+pub mod Conversions

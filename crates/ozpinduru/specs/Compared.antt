@@ -3,7 +3,7 @@
 use Prim.Native.Nat.{ℕ}
 use Rattle.compare.specs.declared.Comparison.{Comparison}
 use Rattle.compare.specs.declared.Comparison.the-variants.{Applies, FirstRefused, SecondRefused, NothingClears, ParametersDiffer, OffersDiffer, OnlyFirst, OnlySecond}
-use Rattle.plain.specs.Answers.{noValue}
+use Rattle.plain.specs.Structs.{noValue}
 use Rattle.plain.specs.declared.structs.OzpComparison.{OzpComparison}
 
 -- the theorem applies: the price, and how many offers are shared

@@ -8,8 +8,8 @@ use Rattle.layout.specs.Read.{contentsOf}
 use Rattle.sale.specs.Payment.{clearingOf}
 use Rattle.call.specs.Answer.{Outcome, answerBy, callFault}
 use Rattle.call.specs.declared.Answer.{Answer}
-use Rattle.plain.specs.Answers.{exported}
 use Rattle.plain.specs.declared.structs.OzpAnswer.{OzpAnswer}
+use Rattle.answers.specs.Answers.{exported}
 
 -- the answer of a call with result buffers of these lengths
 abbrev pub answerTo : List ℕ → ℕ → ℕ → Answer

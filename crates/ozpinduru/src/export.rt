@@ -4,7 +4,6 @@ use call::clear;
 use call::quote;
 use curve::exact::price_at;
 use limits::given::parameters_verdict;
-use plain::answers;
 use plain::given::parameters_in;
 use plain::plotted;
 use plain::structs::NO_AMOUNT;
@@ -22,10 +21,10 @@ ghost use lib.ListN.{length};
 ghost use Rattle.calendar.specs.Year.{daysOf};
 ghost use Rattle.layout.specs.Read.{contentsOf};
 ghost use Rattle.call.specs.Answer.{answerOf};
-ghost use Rattle.plain.specs.Answers.{exported, exportedMakeWhole};
-ghost use Rattle.ozpinduru.specs.Export.{Returned, version};
-ghost use Rattle.plain.specs.Plotted.{exportedCurve, exportedPrice};
 ghost use Rattle.plain.specs.Given.{parametersIn};
+ghost use Rattle.plain.specs.Plotted.{exportedCurve, exportedPrice};
+ghost use Rattle.answers.specs.Answers.{exported, exportedMakeWhole};
+ghost use Rattle.ozpinduru.specs.Export.{Returned, version};
 
 // Clears a book.
 #[no_mangle]

@@ -1,6 +1,6 @@
 // What callers in other languages link.
 pub mod compared;
-pub mod convert;
+pub mod converted;
 pub mod export;
 pub mod read;
 pub mod texts;

@@ -2,12 +2,12 @@
 //
 // A reference to a struct is walked by hand, so there is no branch here: one covered call says what is answered, one how many
 // entries are filled, and one fills an entry.
-use plain::listed::contents;
-use plain::listed::filled;
-use plain::listed::row_at;
+use listing::contents;
+use listing::filled;
+use listing::row_at;
 use plain::structs::OzpContents;
 use plain::structs::OzpRow;
-ghost use Rattle.plain.specs.Listed.{Read};
+ghost use Rattle.listing.specs.Listed.{Read};
 
 // What a book says: each row has its values in its own entry of the array. Entries past the last row are not touched, and on a
 // refusal the array holds what it held.

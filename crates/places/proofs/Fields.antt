@@ -135,7 +135,10 @@ module _ (b : List ℕ) (edition i : ℕ) (o : Offer) where
   unfolding putRow
   row-left e = sym (cond-false _ _ b e)
 
+  -- a block is 16 places long, of which the first 28 bytes and the last 4 hold no row
   pub row-put : {c : List ℕ} → stepWithin edition (o .step) ≡ true
-      → c ≡ put b ((1 + i / 15) * 512 + (28 + i % 15 * 32)) (placeBytes edition o) → c ≡ putRow b edition i o
+      → c ≡ put b (540 + (i + i / 15) * 32) (placeBytes edition o) → c ≡ putRow b edition i o
   unfolding putRow
-  row-put e f = f ∙ sym (cond-true _ _ b e)
+  row-put e f =
+      let at : 540 + (i + i / 15) * 32 ≡ (1 + i / 15) * 512 + (28 + i % 15 * 32) = omega arith in
+      f ∙ ap (λ (at : ℕ). put b at (placeBytes edition o)) at ∙ sym (cond-true _ _ b e)

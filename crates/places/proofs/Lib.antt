@@ -1,3 +1,4 @@
 pub mod Puts
 pub mod Fields
+pub mod Rows
 pub mod Decided

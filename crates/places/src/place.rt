@@ -62,7 +62,8 @@ fn put_place(b: &mut [u8], at: usize, edition: u32, o: Offer)
     );
 }
 
-// An offer as row i of a book of this edition. One with a step that the edition does not have leaves the place as it was.
+// An offer as row i of a book of this edition. One with a step that the edition does not have leaves the place as it was. A block
+// is one place longer than those that it holds.
 pub fn put_row(book: &mut [u8], edition: u32, i: usize, o: Offer)
     requires { ⌜ (length (now book) ≡ 20992) × (i < 600) ⌝ }
     ensures { λ _. ⌜ now (book .exit) ≡ putRow (now (book .entry)) edition i o ⌝ }
@@ -70,6 +71,6 @@ pub fn put_row(book: &mut [u8], edition: u32, i: usize, o: Offer)
     if !step_within(edition, o.step) {
         return;
     }
-    let at = (1 + i / PLACES) * SIZE + (PLACES_FROM + i % PLACES * PLACE_SIZE);
+    let at = SIZE + PLACES_FROM + (i + i / PLACES) * PLACE_SIZE;
     put_place(book, at, edition, o);
 }

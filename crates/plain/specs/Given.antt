@@ -1,4 +1,4 @@
--- What a caller hands in: values, parameters and rows as plain structs of numbers, by the rules of Answers.
+-- What a caller hands in: values, parameters and rows as plain structs of numbers, by the rules of Structs.
 -- Assumes nothing.
 use Prim.Native.Nat.{ℕ}
 use mathlib.Core.Bool.{cond}
@@ -9,7 +9,7 @@ use Rattle.values.specs.declared.Value.the-variants.{Given, Missing}
 use Rattle.values.specs.Contents.{Contents}
 use Rattle.values.specs.declared.head.Parameters.{Parameters}
 use Rattle.values.specs.declared.place.Offer.{Offer}
-use Rattle.plain.specs.Answers.{noValue}
+use Rattle.plain.specs.Structs.{noValue}
 use Rattle.plain.specs.declared.structs.OzpValue.{OzpValue}
 use Rattle.plain.specs.declared.structs.OzpParameters.{OzpParameters}
 use Rattle.plain.specs.declared.structs.OzpRow.{OzpRow}

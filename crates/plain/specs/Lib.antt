@@ -1,5 +1,3 @@
-pub mod Answers
+pub mod Structs
 pub mod Given
 pub mod Plotted
-pub mod Listed
-pub mod inner

@@ -1,4 +1,4 @@
--- What the exported functions return of a curve: plain structs of numbers, by the rules of Answers.
+-- What the exported functions return of a curve: plain structs of numbers, by the rules of Structs.
 --
 -- In order: the three points; the price at a quantity.
 -- Assumes nothing.
@@ -13,7 +13,7 @@ use Rattle.curve.specs.declared.exact.ExactPrice.{ExactPrice}
 use Rattle.curve.specs.declared.exact.ExactCurvePrice.{ExactCurvePrice}
 use Rattle.curve.specs.declared.exact.ExactCurvePrice.the-variants.{Price, NoPrice}
 use Rattle.region.specs.Region.{regionCurve}
-use Rattle.plain.specs.Answers.{noValue}
+use Rattle.plain.specs.Structs.{noValue}
 use Rattle.plain.specs.declared.structs.OzpCurve.{OzpCurve}
 use Rattle.plain.specs.declared.structs.OzpPrice.{OzpPrice}
 

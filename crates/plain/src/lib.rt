@@ -1,6 +1,4 @@
-// What goes in and out of the exported functions, as plain structs of numbers.
-pub mod answers;
+// What goes in and out of the exported functions, as plain structs of numbers: the structs, what a caller hands in, and curves.
 pub mod given;
-pub mod listed;
 pub mod plotted;
 pub mod structs;

@@ -1,44 +1,22 @@
 // The rows of a section: read once into columns, with their values' faults and a repeated resource among those before.
+mod tested;
+
+use crate::tested::past_tested;
+use crate::tested::values_tested;
 use layout::reader::row_bytes;
 use limits::offers::offer_fault;
-use limits::offers::past_fault;
 use limits::repeated::with_repeats;
-use steps::step_follows;
 use values::Verdict;
 use values::least_of;
 use values::number_held;
-use values::place::Offer;
 use values::place::offer_in;
 ghost use mathlib.Core.Path.{_≡_};
-ghost use Prim.Native.Nat.{_-_};
 ghost use Rattle.columns.specs.inner.Columns.{columnsOf, Room};
 ghost use Rattle.limits.specs.Offers.{rowsFault};
-ghost use Rattle.limits.specs.inner.Rows.{rowFault};
 ghost use Rattle.values.specs.Contents.{offerAt};
-ghost use Rattle.layout.specs.Read.{rowOffer, rowOffers};
+ghost use Rattle.layout.specs.Read.{rowOffers};
 ghost use Rattle.layout.specs.inner.Read.{Inside};
-ghost use Rattle.reading.specs.inner.Rows.{RowAt, ValuesRead, RowsRead};
-
-// 6, where prices are needed, 7 and 10 of a row, whose own offer is at hand. Only past step 1 the row before it is read, for which
-// row 0 stands itself: it does not follow itself.
-fn row_tested(
-    book: &[u8],
-    edition: u32,
-    first: usize,
-    needed: bool,
-    o: Offer,
-    before: usize,
-    row: u32,
-) -> Verdict
-    requires { ⌜ RowAt (now book) edition first o before row ⌝ }
-    ensures { λ r. ⌜ r ≡ rowFault needed edition (rowOffer (now (book .entry)) edition first (row - 1)) o row ⌝ }
-{
-    if o.step == 1 {
-        return offer_fault(needed, edition, o, row);
-    }
-    let follows = step_follows(offer_in(row_bytes(book, first, before), edition), o);
-    past_fault(needed, edition, o, follows, row)
-}
+ghost use Rattle.reading.specs.inner.Rows.{ValuesRead, RowsRead};
 
 // The first fault by 6, 7 or 10 among n rows that stand from the block `first` on, with the columns of the rows up to it.
 fn values_fault(
@@ -72,15 +50,12 @@ fn values_fault(
         resources[at] = o.resource;
         stamps[at] = o.stamp;
         steps[at] = o.step;
-        if let Verdict::Refused(number, place) = row_tested(
-            book,
-            edition,
-            first,
-            needed,
-            o,
-            before,
-            row,
-        ) {
+        let fault = if o.step == 1 {
+            offer_fault(needed, edition, o, row)
+        } else {
+            past_tested(book, edition, first, needed, o, before, row)
+        };
+        if let Verdict::Refused(number, place) = fault {
             return Verdict::Refused(number, place);
         }
         before = at;
@@ -125,28 +100,24 @@ pub fn read_rows(
     with_repeats(found, resources, steps, n)
 }
 
-// The first fault of the n offers of a book alone.
+// The first fault of the n offers of a book alone, of which only the resource numbers and the steps are kept.
+fn some_rows_fault(book: &[u8], edition: u32, n: u32, needed: bool) -> Verdict
+    requires { ⌜ Inside (now book) 1 n ⌝ }
+    ensures { λ r. ⌜ r ≡ rowsFault needed edition (offerAt (rowOffers (now (book .entry)) edition 1 n)) n ⌝ }
+{
+    let mut resources = [0u32; 600];
+    let mut steps = [0u32; 600];
+    let found = values_tested(book, edition, 1, n, needed, &mut resources, &mut steps);
+    with_repeats(found, &resources, &steps, n)
+}
+
+// The same fault. Where there are no rows, no columns are cleared for them.
 pub fn rows_fault(book: &[u8], edition: u32, n: u32, needed: bool) -> Verdict
     requires { ⌜ Inside (now book) 1 n ⌝ }
     ensures { λ r. ⌜ r ≡ rowsFault needed edition (offerAt (rowOffers (now (book .entry)) edition 1 n)) n ⌝ }
 {
-    let mut prices = [0u32; 600];
-    let mut quantities = [0u32; 600];
-    let mut leasts = [0u32; 600];
-    let mut resources = [0u32; 600];
-    let mut stamps = [0u64; 600];
-    let mut steps = [0u32; 600];
-    read_rows(
-        book,
-        edition,
-        1,
-        n,
-        needed,
-        &mut prices,
-        &mut quantities,
-        &mut leasts,
-        &mut resources,
-        &mut stamps,
-        &mut steps,
-    )
+    if n == 0 {
+        return Verdict::Passed;
+    }
+    some_rows_fault(book, edition, n, needed)
 }

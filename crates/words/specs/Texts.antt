@@ -10,7 +10,7 @@ use lib.ListN.{length, drop}
 use Rattle.values.specs.Refusals.{unless, shortRoom, bufferBy}
 use Rattle.values.specs.declared.Verdict.{Verdict}
 use Rattle.values.specs.declared.Verdict.the-variants.{Passed, Refused}
-use Rattle.plain.specs.Answers.{noValue, noAmount}
+use Rattle.plain.specs.Structs.{noValue, noAmount}
 use Rattle.plain.specs.declared.structs.OzpText.{OzpText}
 
 -- a text of so many bytes, no text, and a refusal

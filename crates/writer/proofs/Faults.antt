@@ -1,7 +1,7 @@
 -- What is found in the book that is made of rows that were put into their places is what is found in the contents, and where that
 -- is nothing the book is the one that says them.
 --
--- In order: the contents that stand; the bytes made; the rows read from them; the first fault; the book of what passes.
+-- In order: the contents that stand, and that they fit; the bytes made; the rows read from them, and their first fault.
 -- Assumes nothing.
 use mathlib.Core.Path.{_≡_, refl, sym, ap, ap₂, _∙_}
 use mathlib.Core.Bool.{true, false}
@@ -89,7 +89,7 @@ module _ (c : Contents) where
     unfolding givenFault
     given-fits known e fit = rw (stood-given e) at (stood-fits known (andThen-left (rangeFault p) _ e) fit)
 
-    module _ (fit : OffersFit offers) (b : List ℕ) (put : b ≡ putRows (zeros 20992) edition 0 offers) where
+    module _ (b : List ℕ) (put : b ≡ putRows (zeros 20992) edition 0 offers) where
       -- the bytes of the book that is made
       made-stood : take (bytesFor n) (bookMade edition p n b) ≡ encode stood
       made-stood =
@@ -97,25 +97,26 @@ module _ (c : Contents) where
           ∙ ap (λ (k : ℕ). take (bytesFor k) (bookMade edition p k (rawBook edition (stood .offers)))) (sym many)
           ∙ book-encoded stood (omega (arith, many))
 
+      -- Where nothing is found in the contents, the book is the one that says them.
+      pub made-bytes : givenFault c ≡ Passed → take (bytesFor n) (bookMade edition p n b) ≡ encode c
+      made-bytes e = made-stood ∙ ap encode (stood-given e)
+
       -- the rows that are read from it
-      rows-back : editionKnown edition ≡ true → rangeFault p ≡ Passed → rowOffers (encode stood) edition 1 n ≡ stood .offers
+      rows-back : editionKnown edition ≡ true → rangeFault p ≡ Passed → OffersFit offers
+          → rowOffers (encode stood) edition 1 n ≡ stood .offers
       unfolding contentsOf
-      rows-back known e =
+      rows-back known e fit =
           let fits = stood-fits known e fit in
           ap₂ (λ (k m : ℕ). rowOffers (encode stood) k 1 m) (sym (encode-edition stood fits)) (sym (encode-count stood fits ∙ many))
           ∙ ap (λ (d : Contents). d .offers) (read-encoded stood fits)
 
-      -- What is found is what is found in the contents.
-      pub made-fault : madeFault edition p n b ≡ andThen (editionFault c) (andThen (countFault c) (givenFault c))
+      -- What is found in the book is what is found in the contents.
+      pub made-fault : OffersFit offers → madeFault edition p n b ≡ andThen (editionFault c) (andThen (countFault c) (givenFault c))
       unfolding madeFault beforeMade editionFault countFault givenFault
-      made-fault =
+      made-fault fit =
           by-test (editionKnown edition)
           (λ known.
           by-verdict (rangeFault p)
-          (λ e. rw (known, le-leb n 600 few, e, made-stood, rows-back known e) (offers-same edition offers))
+          (λ e. rw (known, le-leb n 600 few, e, made-stood, rows-back known e fit) (offers-same edition offers))
           (λ number place e. rw (known, le-leb n 600 few, e) refl))
           (λ none. rw none refl)
-
-      -- Where that is nothing, the book is the one that says the contents.
-      pub made-bytes : givenFault c ≡ Passed → take (bytesFor n) (bookMade edition p n b) ≡ encode c
-      made-bytes e = made-stood ∙ ap encode (stood-given e)

@@ -7,12 +7,18 @@ use mathlib.Core.List.{List, [], _∷_, _++_}
 use Prim.Native.Nat.{ℕ, zero, suc, _+_, _-_, _*_, _≤_}
 use native.Mathlib.Nat.{zero-add, suc-add}
 use native.Mathlib.Omega.{arith}
-use lib.ListN.{length, take, drop, length-append, length-take}
+use lib.ListN.{length, take, drop, replicate, length-append, length-take}
 use Rattle.values.specs.declared.place.Offer.{Offer}
 use Rattle.encoding.specs.Numbers.{zeros}
 use Rattle.encoding.specs.Encode.{placesBytes}
 use Rattle.encoding.proofs.Digits.{length-zeros}
 use Rattle.encoding.proofs.Rows.{length-places}
+
+-- zeros as a new array holds them
+pub zeros-are : (n : ℕ) → replicate n 0 ≡ zeros n
+unfolding zeros
+zeros-are zero = refl
+zeros-are (suc n) = ap (λ (s : List ℕ). 0 ∷ s) (zeros-are n)
 
 pub zeros-add : (m n : ℕ) → zeros (m + n) ≡ zeros m ++ zeros n
 unfolding zeros

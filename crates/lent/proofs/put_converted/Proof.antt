@@ -6,8 +6,8 @@ use native.Mathlib.Nat.{sub-zero}
 use native.Mathlib.Omega.{arith}
 use lib.ListN.{length, take}
 use borrow.Author.Needs.{needs}
+use Rattle.writer.proofs.Raw.{zeros-are}
 use Rattle.lent.proofs.Converting.{converted-refused, converted-most, converted-put}
-use Rattle.lent.proofs.Placed.{zeros-are}
 use Rattle.lent.proofs.put_converted.Statement.{statement}
 use Rattle.lent.proofs.put_converted.Tie as tie
 

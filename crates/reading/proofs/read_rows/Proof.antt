@@ -2,7 +2,7 @@
 -- Assumes nothing.
 use borrow.Author.Needs.{needs}
 use Rattle.layout.proofs.Contained.{length-rowOffers}
-use Rattle.reading.proofs.Values.{values-within, values-rows-by}
+use Rattle.reading.proofs.Values.{values-within, values-rows}
 use Rattle.reading.proofs.read_rows.Statement.{statement}
 use Rattle.reading.proofs.read_rows.Tie as tie
 
@@ -39,7 +39,7 @@ same-length-6 c = search needs
 returns : tie.Need-returns
 returns c =
     let found = c .before .before .before .before .before .before .before .before .before .before .before .before .before .before .before in
-    values-rows-by _ _ _ _ (length-rowOffers _ _ _ _) (found .values-fault .ensures) (entry found .pre .1) _
+    values-rows _ _ _ _ (found .values-fault .ensures) (entry found .pre .1) (length-rowOffers _ _ _ _) _
     (c .with-repeats .ensures)
 
 pub read-rows-spec : {M : Type 1} → statement M

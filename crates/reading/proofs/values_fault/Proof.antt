@@ -1,7 +1,8 @@
 -- `values_fault` finds the first fault by 6, 7 or 10, and reads the rows up to it into the columns. The loop's invariant: the
 -- rows passed had no such fault, and stand in the columns, and the last of them is the row before the next.
 -- Assumes nothing.
-use mathlib.Core.Path.{_≡_, sym, ap₂, _∙_}
+use mathlib.Core.Path.{_≡_, sym, _∙_}
+use mathlib.Core.Logic.{⊎-elim}
 use Prim.Native.Nat.{ℕ, _≤_, _-_}
 use native.Mathlib.Omega.{arith}
 use borrow.Author.Needs.{needs}
@@ -9,11 +10,13 @@ use Rattle.laws.proofs.Filling.{length-filling, in-filling}
 use Rattle.values.specs.declared.Verdict.the-variants.{Passed}
 use Rattle.values.specs.declared.place.Offer.{Offer}
 use Rattle.limits.specs.inner.Rows.{rowFault}
+use Rattle.limits.proofs.Tested.{rowFault-first}
 use Rattle.values.specs.Contents.{offerAt}
-use Rattle.layout.specs.Read.{rowOffers}
-use Rattle.layout.proofs.Contained.{offerAt-rowOffers, offer-of-row}
+use Rattle.layout.specs.Read.{rowOffer, rowOffers}
+use Rattle.layout.proofs.Contained.{offer-of-row}
 use Rattle.columns.specs.inner.Columns.{columnsOf}
 use Rattle.reading.specs.inner.Rows.{ValuesRead}
+use Rattle.reading.proofs.Tests.{row-at, row-fault}
 use Rattle.reading.proofs.Values.{values-none, values-more, values-refused, values-end}
 use Rattle.reading.proofs.values_fault.Statement.{statement}
 use Rattle.reading.proofs.values_fault.Tie as tie
@@ -97,42 +100,49 @@ mul-steps c = search needs
 slice-write-steps : tie.Need-slice-write-steps Inv-loop μ-loop
 slice-write-steps c = in-filling _ _ _ (c .before .before .before .before .before .loop .inv .1 .1 .read .step) (omega arith)
 
-row-tested-requires : tie.Need-row-tested-requires Inv-loop μ-loop
-row-tested-requires c κs =
+offer-fault-requires : tie.Need-offer-fault-requires Inv-loop μ-loop
+offer-fault-requires c κs = search needs
+
+past-tested-requires : tie.Need-past-tested-requires Inv-loop μ-loop
+past-tested-requires c κs =
     let read = c .before .before .before .before in
-    let at = read .before in
-    let row = at .loop .row in
+    let at = read .before .before .before in
+    (row-at _ _ _ _ _ (read .before .before .loop-test .taken) (as-offer read) _ (entry at .pre .0) (at .loop .inv .1 .0), c .if1 .left)
+
+-- the row is tested by its own values at step 1, and past it with the row before
+row-told : (c : tie.Joined1 Inv-loop μ-loop) →
+    let read = c .before .before .before .before in
+    let at = read .before .before .before in
     let a = entry at .args in
-    record {
-      within = entry at .pre .0 .within row (read .loop-test .taken);
-      own = as-offer (c .before .before) ∙ offerAt-rowOffers (a .book .now) (a .edition) (a .first) (a .n) row (read .loop-test .taken);
-      behind = at .loop .inv .1 .0;
-    }
+    c .if1 .fault ≡ rowFault (a .needed) (a .edition) (rowOffer (a .book .now) (a .edition) (a .first) (at .loop .row - 1)) (read .offer-in .result) (at .loop .row)
+row-told c =
+    ⊎-elim
+    (λ w. w .2 ∙ w .1 .ensures ∙ sym (rowFault-first _ _ _ _ _ (w .0 .taken)))
+    (λ w. w .2 ∙ w .1 .ensures)
+    (c .if1 .came)
 
 -- and its fault is that of the definition
-as-fault : (c : tie.After-row-tested Inv-loop μ-loop) →
-    let at = c .before .before .before .before .before .before in
+as-fault : (c : tie.Joined1 Inv-loop μ-loop) →
+    let at = c .before .before .before .before .before .before .before in
     let row = at .loop .row in
-    c .row-tested .result ≡ rowFault (entry at .args .needed) (entry at .args .edition) (offer at (row - 1)) (offer at row) row
+    c .if1 .fault ≡ rowFault (entry at .args .needed) (entry at .args .edition) (offer at (row - 1)) (offer at row) row
 as-fault c =
-    let at = c .before .before .before .before .before .before in
-    let a = entry at .args in
-    let behind = offerAt-rowOffers (a .book .now) (a .edition) (a .first) (a .n) (at .loop .row - 1) (omega arith) in
-    c .row-tested .ensures
-    ∙ ap₂ (λ (before o : Offer). rowFault (a .needed) (a .edition) before o (at .loop .row)) (sym behind) (as-offer (c .before .before .before))
+    let read = c .before .before .before .before in
+    row-fault _ _ _ _ _ (read .before .before .loop-test .taken) (as-offer read) _ (row-told c)
 
-enum-known-number : tie.Need-enum-known-number Inv-loop μ-loop
-enum-known-number c = search needs
+enum-known-fault : tie.Need-enum-known-fault Inv-loop μ-loop
+enum-known-fault c = search needs
 
 -- the columns up to the row that is refused
 refused : tie.Need-returns Inv-loop μ-loop
 refused c =
-    let tested = c .before .before .before in
-    let at = tested .before .before .before .before .before .before in
-    values-refused _ _ _ _ (at .loop .inv .1 .1) (as-offer (tested .before .before .before)) (tested .before .before .number-held .ensures)
-    (tested .before .least-of .ensures) _ _ _
-    (tested .before .before .before .before .before .loop-test .taken)
-    (sym (as-fault tested) ∙ c .before .number .given .1)
+    let joined = c .before .before .before in
+    let read = joined .before .before .before .before in
+    let at = read .before .before .before in
+    values-refused _ _ _ _ (at .loop .inv .1 .1) (as-offer read) (joined .before .before .before .number-held .ensures)
+    (joined .before .before .least-of .ensures) _ _ _
+    (read .before .before .loop-test .taken)
+    (sym (as-fault joined) ∙ c .before .fault .given .1)
 
 same-length : tie.Need-same-length Inv-loop μ-loop
 same-length c = length-filling _ _ _ (refused c .read .price)
@@ -161,21 +171,21 @@ enum-told c = search needs
 add-row : tie.Need-add-row Inv-loop μ-loop
 add-row c =
     let read = c .before .before .before .before .before .before in
-    omega (arith, read .before .loop-test .taken, entry (read .before .before) .fits .n)
+    omega (arith, read .before .before .loop-test .taken, entry (read .before .before .before) .fits .n)
 
 loop-less : tie.Need-loop-less Inv-loop μ-loop
 loop-less c = search needs
 
 loop-again : tie.Need-loop-again Inv-loop μ-loop
 loop-again c =
-    let tested = c .before .before in
-    let at = tested .before .before .before .before .before .before in (
+    let joined = c .before .before in
+    let read = joined .before .before .before .before in
+    let at = read .before .before .before in (
       search needs,
       (
         search needs,
-        values-more _ _ _ _ (at .loop .inv .1 .1) (as-offer (tested .before .before .before)) (tested .before .before .number-held .ensures)
-            (tested .before .least-of .ensures)
-            (sym (as-fault tested) ∙ c .enum-told .given .1),
+        values-more _ _ _ _ (at .loop .inv .1 .1) (as-offer read) (joined .before .before .before .number-held .ensures) (joined .before .before .least-of .ensures)
+            (sym (as-fault joined) ∙ c .enum-told .given .1),
       ),
     )
 
@@ -227,8 +237,9 @@ values-fault-spec =
     slice-write-stamps
     mul-steps
     slice-write-steps
-    row-tested-requires
-    enum-known-number
+    offer-fault-requires
+    past-tested-requires
+    enum-known-fault
     same-length
     same-length-2
     same-length-3

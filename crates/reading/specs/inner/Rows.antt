@@ -12,6 +12,7 @@ use Rattle.values.specs.declared.place.Offer.{Offer}
 use Rattle.layout.specs.Read.{rowOffer}
 use Rattle.limits.specs.Offers.{rowsFault}
 use Rattle.limits.specs.inner.Rows.{valuesFault}
+use Rattle.columns.specs.inner.Column.{Column, rowResource, rowStep}
 use Rattle.columns.specs.inner.Columns.{Columns, ColumnsRead}
 
 -- a row of a book, its own offer and the number of the row before it, which is 0 for row 0
@@ -25,7 +26,15 @@ abbrev pub rowsTested : Verdict → ℕ → ℕ
 rowsTested Passed n = n
 rowsTested (Refused number row) n = row + 1
 
--- the first fault by 6, 7 or 10 among the first n offers, and the columns of the rows up to it
+-- the first fault by 6, 7 or 10 among the first n offers, and the resource numbers and the steps of the rows up to it
+pub record ValuesTested (needed : Bool) (edition : ℕ) (offers : List Offer) (n : ℕ) (fault : Verdict)
+    (resources₀ steps₀ resources steps : List ℕ) : Type 0 where
+  pub found : fault ≡ valuesFault needed edition (offerAt offers) n
+  pub within : rowsTested fault n ≤ n
+  pub resource : Column (rowResource offers) (rowsTested fault n) resources₀ resources
+  pub step : Column (rowStep offers) (rowsTested fault n) steps₀ steps
+
+-- the same fault, and all columns of the rows up to it
 pub record ValuesRead (needed : Bool) (edition : ℕ) (offers : List Offer) (n : ℕ) (fault : Verdict) (before after : Columns) : Type 0 where
   pub found : fault ≡ valuesFault needed edition (offerAt offers) n
   pub within : rowsTested fault n ≤ n

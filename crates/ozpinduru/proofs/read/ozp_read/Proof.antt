@@ -59,24 +59,24 @@ use borrow.Author.Tests.{lt-ltb, le-ltb}
 use Rattle.plain.specs.declared.structs.OzpContents.{OzpContents}
 use Rattle.plain.specs.declared.structs.OzpRow.{OzpRow}
 use Rattle.plain.specs.declared.structs.OzpValue.{OzpValue}
-use Rattle.plain.specs.Listed.{exportedContents, rowsFilled, filledRows, rowOut}
-use Rattle.plain.proofs.Listings.{entered-row, entered-entry, filled-none, filled-next, length-filled}
 use Rattle.plain.proofs.structs.OzpRow as T
 use Rattle.plain.proofs.structs.OzpRow.Laws as T′
 use Rattle.plain.proofs.structs.OzpContents as U
 use Rattle.plain.proofs.structs.OzpContents.Laws as U′
-use Rattle.plain.proofs.listed.contents as contents
-use Rattle.plain.proofs.listed.contents.Symbol as contents-def
-use Rattle.plain.proofs.listed.contents.Symbol.{name as #contents}
-use Rattle.plain.proofs.listed.contents.Met as contents-thm
-use Rattle.plain.proofs.listed.filled as filled
-use Rattle.plain.proofs.listed.filled.Symbol as filled-def
-use Rattle.plain.proofs.listed.filled.Symbol.{name as #filled}
-use Rattle.plain.proofs.listed.filled.Met as filled-thm
-use Rattle.plain.proofs.listed.row_at as row-at
-use Rattle.plain.proofs.listed.row_at.Symbol as row-at-def
-use Rattle.plain.proofs.listed.row_at.Symbol.{name as #row-at}
-use Rattle.plain.proofs.listed.row_at.Met as row-at-thm
+use Rattle.listing.specs.Listed.{exportedContents, rowsFilled, filledRows, rowOut}
+use Rattle.listing.proofs.Listings.{entered-row, entered-entry, filled-none, filled-next, length-filled}
+use Rattle.listing.proofs.contents as contents
+use Rattle.listing.proofs.contents.Symbol as contents-def
+use Rattle.listing.proofs.contents.Symbol.{name as #contents}
+use Rattle.listing.proofs.contents.Met as contents-thm
+use Rattle.listing.proofs.filled as filled
+use Rattle.listing.proofs.filled.Symbol as filled-def
+use Rattle.listing.proofs.filled.Symbol.{name as #filled}
+use Rattle.listing.proofs.filled.Met as filled-thm
+use Rattle.listing.proofs.row_at as row-at
+use Rattle.listing.proofs.row_at.Symbol as row-at-def
+use Rattle.listing.proofs.row_at.Symbol.{name as #row-at}
+use Rattle.listing.proofs.row_at.Met as row-at-thm
 use Rattle.ozpinduru.proofs.read.ozp_read.Key.{name as #ozp-read}
 use Rattle.ozpinduru.proofs.read.ozp_read as ozp-read
 use Rattle.ozpinduru.proofs.read.ozp_read.Statement as stated
@@ -426,6 +426,6 @@ ozp-read-spec 𝓤 H 𝓜 𝓖 𝓡 =
     entered 𝓤 H (tripleOf 𝓤 H (𝓖 .A) ozp-read.signature (ozp-read.spec 𝓤 H (𝓖 .A) (𝓜 .mem) (𝓡 .run)))
     (tables 𝓤 H 𝓜 𝓡 code.env .C) (tables 𝓤 H 𝓜 𝓡 code.env .Λ) #ozp-read code.function (code.unfolded 𝓤 H 𝓜 𝓡)
     (read-meets 𝓤 H (𝓖 .A) (givenOf 𝓤 H 𝓜 𝓖) (𝓜 .mem) (𝓡 .run) (tablesOf 𝓤 H 𝓜 (tables 𝓤 H 𝓜 𝓡 code.env))
-    (cited 𝓤 H (Contents 𝓤 H (𝓖 .A) (𝓜 .mem) (𝓡 .run)) 𝓜 𝓡 code.env #contents contents-def.routine code.calls-plain·listed·contents (contents-thm.met 𝓤 H 𝓜 𝓖 𝓡))
-    (cited 𝓤 H (Filled 𝓤 H (𝓖 .A) (𝓜 .mem) (𝓡 .run)) 𝓜 𝓡 code.env #filled filled-def.routine code.calls-plain·listed·filled (filled-thm.met 𝓤 H 𝓜 𝓖 𝓡))
-    (cited 𝓤 H (RowAt 𝓤 H (𝓖 .A) (𝓜 .mem) (𝓡 .run)) 𝓜 𝓡 code.env #row-at row-at-def.routine code.calls-plain·listed·row-at (row-at-thm.met 𝓤 H 𝓜 𝓖 𝓡)))
+    (cited 𝓤 H (Contents 𝓤 H (𝓖 .A) (𝓜 .mem) (𝓡 .run)) 𝓜 𝓡 code.env #contents contents-def.routine code.calls-listing·contents (contents-thm.met 𝓤 H 𝓜 𝓖 𝓡))
+    (cited 𝓤 H (Filled 𝓤 H (𝓖 .A) (𝓜 .mem) (𝓡 .run)) 𝓜 𝓡 code.env #filled filled-def.routine code.calls-listing·filled (filled-thm.met 𝓤 H 𝓜 𝓖 𝓡))
+    (cited 𝓤 H (RowAt 𝓤 H (𝓖 .A) (𝓜 .mem) (𝓡 .run)) 𝓜 𝓡 code.env #row-at row-at-def.routine code.calls-listing·row-at (row-at-thm.met 𝓤 H 𝓜 𝓖 𝓡)))

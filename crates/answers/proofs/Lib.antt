@@ -1,0 +1,3 @@
+pub mod Shows
+pub mod Exported
+pub mod Decided
