@@ -4,4 +4,6 @@ pub mod Refused
 mod Putting
 pub mod Told
 pub mod Made
+pub mod Converting
+pub mod Between
 pub mod Decided

@@ -1,4 +1,4 @@
-// A sound book in the other edition. Its rows are put into their places of bytes that are all zero, in the other edition, and the
+// A sound book in the other edition, in room that a caller lends. Its rows are put into their places of bytes that are all zero, in the other edition, and the
 // book is made around them as the writer makes it.
 use block::SIZE;
 use book::soundness;
@@ -7,9 +7,12 @@ use layout::reader::offer_count;
 use layout::reader::row_bytes;
 use making::put_book;
 use places::place::put_row;
+use plain::structs::OzpText;
 use values::Verdict;
 use values::head::parameters_in;
 use values::place::offer_in;
+use words::put_text;
+use words::refused;
 ghost use mathlib.Core.Path.{_≡_};
 ghost use mathlib.Core.Bool.{cond};
 ghost use lib.Dec.{eqb};
@@ -19,6 +22,7 @@ ghost use Rattle.layout.specs.Read.{rowOffers};
 ghost use Rattle.layout.specs.inner.Read.{Inside};
 ghost use Rattle.places.specs.inner.Rows.{putRows};
 ghost use Rattle.convert.specs.Convert.{otherEdition, stepsFault};
+ghost use Rattle.convert.specs.Converted.{Converted};
 ghost use Rattle.convert.specs.inner.Converts.{Converts};
 
 // The other of the two editions.
@@ -83,4 +87,16 @@ pub fn convert(book: &[u8], made: &mut [u8]) -> Verdict
     put_rows(book, own, other, n, made);
     put_book(made, other, parameters_in(&book[0..SIZE]), n);
     Verdict::Passed
+}
+
+// Converts a book, and copies it in the other edition into the room, where nothing refuses it. It is made on the stack, where it
+// takes 21 KiB.
+pub fn put_converted(book: &[u8], room: &mut [u8]) -> OzpText
+    ensures { λ r. ⌜ Converted (now (book .entry)) (now (room .entry)) r (now (room .exit)) ⌝ }
+{
+    let mut made = [0u8; 20992];
+    if let Verdict::Refused(number, place) = convert(book, &mut made) {
+        return refused(number, place);
+    }
+    put_text(room, &made[0..book.len()])
 }

@@ -13,11 +13,9 @@ use Rattle.plain.specs.Given.{parametersIn, offerIn}
 use Rattle.plain.specs.declared.structs.OzpParameters.{OzpParameters}
 use Rattle.plain.specs.declared.structs.OzpRow.{OzpRow}
 use Rattle.plain.specs.declared.structs.OzpText.{OzpText}
-use Rattle.lent.specs.Converted.{Converted}
 use Rattle.lent.specs.Wrote.{Wrote}
 use Rattle.lent.specs.inner.Finished.{Finished}
 use Rattle.lent.proofs.put_book.Reads as put-book
-use Rattle.lent.proofs.put_converted.Reads as put-converted
 use Rattle.lent.proofs.put_row.Reads as put-row
 use Rattle.lent.proofs.rows_kept.Reads as rows-kept
 
@@ -58,17 +56,3 @@ put-book-decided κs edition p rows book₁ room₁ book₂ room₂ book₁′ r
 pub wrote-same : (c : Contents) (room : List ℕ) (r s : OzpText) (room₁ room₂ : List ℕ) → Wrote c room r room₁ → Wrote c room s room₂
     → (r ≡ s) × (room₁ ≡ room₂)
 wrote-same c room r s room₁ room₂ x y = (x .answered ∙ sym (y .answered), x .room-holds ∙ sym (y .room-holds))
-
--- what a call that converts answers and leaves in the room
-pub converted-same : (b room : List ℕ) (r s : OzpText) (room₁ room₂ : List ℕ) → Converted b room r room₁ → Converted b room s room₂
-    → (r ≡ s) × (room₁ ≡ room₂)
-converted-same b room r s room₁ room₂ x y = (x .answered ∙ sym (y .answered), x .room-holds ∙ sym (y .room-holds))
-
--- both, by the contract of `put_converted`
-pub put-converted-decided : (κs : Lfts 2) (book₁ book₂ room₁ room₂ room₁′ room₂′ : RefT (List ℕ)) (r s : OzpText)
-    → now book₁ ≡ now book₂ → now room₁ ≡ now room₂
-    → put-converted.Post κs (book₁, (room₁, tt)) r (book₁, (room₁′, tt))
-    → put-converted.Post κs (book₂, (room₂, tt)) s (book₂, (room₂′, tt))
-    → (r ≡ s) × (now room₁′ ≡ now room₂′)
-put-converted-decided κs book₁ book₂ room₁ room₂ room₁′ room₂′ r s e f x y =
-    converted-same (now book₁) (now room₁) _ _ _ _ x (rw (e, f) y)

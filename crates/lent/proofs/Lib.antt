@@ -3,6 +3,4 @@ pub mod Writes
 pub mod Placed
 pub mod Written
 pub mod Copied
-pub mod Converting
-pub mod Between
 pub mod Decided

@@ -32,21 +32,9 @@ use Rattle.encoding.proofs.BookRead.{encode-read}
 use Rattle.writer.specs.Writing.{editionFault, countFault, writeFault}
 use Rattle.plain.specs.declared.structs.OzpText.{OzpText}
 use Rattle.words.specs.Texts.{textGiven, textRefused, textBy}
+use Rattle.words.proofs.Answered.{refused-by, passed-by}
 use Rattle.lent.specs.Wrote.{Wrote}
 use Rattle.lent.proofs.Writes.{given-passed, passed-fits}
-
--- ---- a verdict, by what is answered of it
-
-pub refused-by : (v : Verdict) (n number place : ℕ) → textBy v (textGiven n) ≡ textRefused number place → v ≡ Refused number place
-refused-by Passed n number place e = absurd (omega (arith, ap (λ (t : OzpText). t .kind) e))
-refused-by (Refused m p) n number place e =
-    let f : m ≡ number = ap (λ (t : OzpText). t .number) e in
-    let g : p ≡ place = ap (λ (t : OzpText). t .place) e in
-    rw (f, g) refl
-
-pub passed-by : (v : Verdict) (n : ℕ) → textBy v (textGiven n) .kind ≡ 1 → v ≡ Passed
-passed-by Passed n e = refl
-passed-by (Refused m p) n e = absurd (omega (arith, e))
 
 -- ---- one call
 

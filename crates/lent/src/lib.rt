@@ -1,6 +1,5 @@
-// A book in room that a caller lends: written from plain structs, in either edition, where the rows stand in their places of a book
-// of zeros by then, each put there by one call; or converted to the other edition.
-use convert::convert;
+// A book of either edition written from plain structs into room that a caller lends. The rows stand in their places of a book of
+// zeros by then, each put there by one call.
 use plain::given::offer_in;
 use plain::given::parameters_in;
 use plain::structs::OzpParameters;
@@ -16,7 +15,6 @@ ghost use Prim.Native.Nat.{_<_, min};
 ghost use lib.ListN.{length};
 ghost use Rattle.plain.specs.Given.{parametersIn, offerIn};
 ghost use Rattle.places.specs.inner.Rows.{putRow};
-ghost use Rattle.lent.specs.Converted.{Converted};
 ghost use Rattle.lent.specs.inner.Finished.{Finished};
 
 // How many of so many rows are put into their places: a book has 600.
@@ -50,16 +48,4 @@ pub fn put_book(
         return refused(number, place);
     }
     put_text(room, &book[0..bytes_for(rows)])
-}
-
-// Converts a book, and copies it in the other edition into the room, where nothing refuses it. It is made on the stack, where it
-// takes 21 KiB.
-pub fn put_converted(book: &[u8], room: &mut [u8]) -> OzpText
-    ensures { λ r. ⌜ Converted (now (book .entry)) (now (room .entry)) r (now (room .exit)) ⌝ }
-{
-    let mut made = [0u8; 20992];
-    if let Verdict::Refused(number, place) = convert(book, &mut made) {
-        return refused(number, place);
-    }
-    put_text(room, &made[0..book.len()])
 }

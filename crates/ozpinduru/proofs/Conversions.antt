@@ -18,8 +18,8 @@ use Rattle.call.proofs.EitherEdition.{editions-answer-the-same}
 use Rattle.convert.specs.Convert.{inOther}
 use Rattle.convert.proofs.Converted.{ones}
 use Rattle.plain.specs.declared.structs.OzpText.{OzpText}
-use Rattle.lent.specs.Converted.{Converted}
-use Rattle.lent.proofs.Between.{convert-sound, convert-down, converted-is-sound, converted-says}
+use Rattle.convert.specs.Converted.{Converted}
+use Rattle.convert.proofs.Between.{convert-sound, convert-down, converted-is-sound, converted-says}
 
 same-but-edition : (b room : List ℕ) {r : OzpText} {room′ : List ℕ} (k : Converted b room r room′) (done : r .kind ≡ 1)
     → ((i : ℕ) → i < length b → byte b i < 256) → SameButEdition (contentsOf b) (contentsOf (take (r .bytes) room′))

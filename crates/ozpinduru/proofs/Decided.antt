@@ -24,7 +24,8 @@ use Rattle.listing.specs.Listed.{Read}
 use Rattle.words.proofs.Decided.{told-same}
 use Rattle.plain.specs.Given.{contentsIn}
 use Rattle.lent.specs.Wrote.{Wrote}
-use Rattle.lent.proofs.Decided.{wrote-same, converted-same}
+use Rattle.convert.proofs.Decided.{converted-same}
+use Rattle.lent.proofs.Decided.{wrote-same}
 use Rattle.plain.specs.declared.structs.OzpAnswer.{OzpAnswer}
 use Rattle.plain.specs.declared.structs.OzpContents.{OzpContents}
 use Rattle.plain.specs.declared.structs.OzpCurve.{OzpCurve}

@@ -1,7 +1,7 @@
 // A book in the other edition, in lent room.
-use lent::put_converted;
+use convert::put_converted;
 use plain::structs::OzpText;
-ghost use Rattle.lent.specs.Converted.{Converted};
+ghost use Rattle.convert.specs.Converted.{Converted};
 
 // Converts a sound book to the other edition, into the room. What stands behind it is not touched, and on a refusal the room holds
 // what it held. The book is made on the stack, where it takes 21 KiB.

@@ -7,9 +7,9 @@ use native.Mathlib.Omega.{arith}
 use lib.ListN.{length, take}
 use borrow.Author.Needs.{needs}
 use Rattle.writer.proofs.Raw.{zeros-are}
-use Rattle.lent.proofs.Converting.{converted-refused, converted-most, converted-put}
-use Rattle.lent.proofs.put_converted.Statement.{statement}
-use Rattle.lent.proofs.put_converted.Tie as tie
+use Rattle.convert.proofs.Converting.{converted-refused, converted-most, converted-put}
+use Rattle.convert.proofs.put_converted.Statement.{statement}
+use Rattle.convert.proofs.put_converted.Tie as tie
 
 slice-aggregate-convert : tie.Need-slice-aggregate-convert
 slice-aggregate-convert c = search needs

@@ -15,12 +15,12 @@ use Rattle.values.specs.declared.Verdict.the-variants.{Passed, Refused}
 use Rattle.values.proofs.Firsts.{andThen-left, andThen-right}
 use Rattle.layout.specs.Read.{contentsOf}
 use Rattle.book.specs.Faults.{firstFault, soundFault}
 use Rattle.convert.specs.Convert.{inOther, downFault, converted, convertFault}
 use Rattle.convert.proofs.Converted.{converted-said, converted-sound, converted-verdict, converted-length, converted-back, converted-back-passes}
 use Rattle.plain.specs.declared.structs.OzpText.{OzpText}
 use Rattle.words.specs.Texts.{textGiven, textRefused, textBy}
-use Rattle.lent.specs.Converted.{Converted}
-use Rattle.lent.proofs.Written.{refused-by, passed-by}
+use Rattle.convert.specs.Converted.{Converted}
+use Rattle.words.proofs.Answered.{refused-by, passed-by}
 
 module _ (b room : List ℕ) {r : OzpText} {room′ : List ℕ} (k : Converted b room r room′) where
   -- Where the table refuses, the call does, by the same number at the same place, and leaves the room as it was.

@@ -18,15 +18,15 @@ use Rattle.layout.proofs.Passing.{form-passed-length, form-passed-count, form-p
 use Rattle.book.specs.Faults.{soundFault}
 use Rattle.book.proofs.Accepted.{sound-form}
 use Rattle.encoding.specs.Numbers.{zeros}
 use Rattle.convert.specs.Convert.{downFault, converted, convertFault}
 use Rattle.convert.specs.inner.Converts.{ownFault, otherMade, Converts}
 use Rattle.convert.proofs.Converted.{converted-length}
 use Rattle.convert.proofs.Made.{other-made}
 use Rattle.convert.proofs.Told.{convert-own}
 use Rattle.plain.specs.declared.structs.OzpText.{OzpText}
 use Rattle.words.specs.Texts.{textGiven, textRefused, textOf, textBy, Told}
 use Rattle.words.proofs.Telling.{given-some}
-use Rattle.lent.specs.Converted.{Converted}
+use Rattle.convert.specs.Converted.{Converted}
 
 module _ (b room made : List ℕ) (blank : made ≡ zeros 20992) {v : Verdict} {made′ : List ℕ} (m : Converts b made v made′) where
   -- a book that is refused leaves the room as it was
