@@ -17,7 +17,9 @@ use reasons::stop::Next;
 use reasons::stop::Stop;
 use settle::make_whole;
 use values::place::Offer;
+use workings::read::Head;
 use workings::read::RowOffer;
+use workings::read::head_of;
 use workings::read::offer_of;
 use workings::read::rows_of;
 use workings::works::WorksAnswer;
@@ -98,11 +100,13 @@ fn explain_row(
 // The rows of a book.
 pub fn explain_rows(
     book: &[u8],
-    edition: u32,
     price: ClearingPrice,
     cleared: &[u32; 600],
     committed: &[u32; 600],
 ) -> bool {
+    let Head::Stated(edition, _, _) = head_of(book) else {
+        return true;
+    };
     let n = rows_of(book);
     for row in 0..n {
         if !explain_row(book, edition, row, price, cleared[row], committed[row])

@@ -20,12 +20,11 @@ use page::totals::say_year;
 use refused::explain_refusal;
 use sale::Clearing;
 use workings::read::Head;
-use workings::read::edition_of;
 use workings::read::head_of;
 
 // What block 0 states, where the form of the book lets it be read.
-fn explain_head(book: &[u8], edition: u32) -> bool {
-    if let Head::Stated(p, offers) = head_of(book) {
+fn explain_head(book: &[u8]) -> bool {
+    if let Head::Stated(edition, p, offers) = head_of(book) {
         return say_stated(edition, p, offers);
     }
     true
@@ -33,7 +32,7 @@ fn explain_head(book: &[u8], edition: u32) -> bool {
 
 // Which edition of the curve the year selects.
 fn explain_edition(book: &[u8]) -> bool {
-    if let Head::Stated(p, _) = head_of(book) {
+    if let Head::Stated(_, p, _) = head_of(book) {
         return say_edition(p);
     }
     true
@@ -41,7 +40,7 @@ fn explain_edition(book: &[u8]) -> bool {
 
 // The totals of a book.
 fn explain_totals(book: &[u8], c: Clearing) -> bool {
-    if let Head::Stated(p, _) = head_of(book) {
+    if let Head::Stated(_, p, _) = head_of(book) {
         let price = c.price;
         return say_daily(price, c.daily, c.make_whole) && say_year(p.year, days_of(p.year), c.year);
     }
@@ -52,17 +51,16 @@ fn explain_totals(book: &[u8], c: Clearing) -> bool {
 fn explain(book: &[u8]) -> bool {
     let mut cleared = [0u32; 600];
     let mut committed = [0u32; 600];
-    let edition = edition_of(book);
-    if !explain_head(book, edition) {
+    if !explain_head(book) {
         return false;
     }
     match clear(book, &mut cleared, &mut committed) {
-        Answer::Refused(number, place) => explain_refusal(book, edition, number, place),
+        Answer::Refused(number, place) => explain_refusal(book, number, place),
         Answer::Cleared(c) => {
             let price = c.price;
             explain_edition(book)
                 && explain_market(book, price)
-                && explain_rows(book, edition, price, &cleared, &committed)
+                && explain_rows(book, price, &cleared, &committed)
                 && explain_totals(book, c)
         }
     }

@@ -6,7 +6,9 @@ use page::refused::say_row;
 use page::refused::say_rules;
 use page::refused::say_values;
 use page::rows::say_offer;
+use workings::read::Head;
 use workings::read::RowOffer;
+use workings::read::head_of;
 use workings::read::offer_of;
 
 // The first row with a resource number; `row` where none stands before it.
@@ -37,7 +39,10 @@ fn explain_steps(book: &[u8], edition: u32, row: usize) -> bool {
 }
 
 // 6, 7, 8 and 10: a row, with its values.
-fn explain_row(book: &[u8], edition: u32, number: u32, row: usize) -> bool {
+fn explain_row(book: &[u8], number: u32, row: usize) -> bool {
+    let Head::Stated(edition, _, _) = head_of(book) else {
+        return true;
+    };
     if let RowOffer::Offered(o) = offer_of(book, row) {
         if !say_row(number, row, o.resource, first_row(book, row, o.resource)) {
             return false;
@@ -52,11 +57,11 @@ fn explain_row(book: &[u8], edition: u32, number: u32, row: usize) -> bool {
 }
 
 // A refusal, by its number.
-pub fn explain_refusal(book: &[u8], edition: u32, number: u32, place: u32) -> bool {
+pub fn explain_refusal(book: &[u8], number: u32, place: u32) -> bool {
     match number {
         1 => say_length(book.len()),
         2 | 3 => say_block(number, place),
         4 | 5 => say_parameter(number, place),
-        _ => explain_row(book, edition, number, place as usize),
+        _ => explain_row(book, number, place as usize),
     }
 }

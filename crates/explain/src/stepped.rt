@@ -19,11 +19,14 @@ fn added(sum: u64, tenths: u32) -> u64
     sum + tenths as u64
 }
 
-// What a row offers; nothing where it isn't there.
-fn quantity_of(book: &[u8], row: usize) -> u32 {
+// A sum with what a row offers, where the row is there.
+fn with_row(sum: u64, book: &[u8], row: usize) -> u64
+    requires { ⌜ sum ≤ 4294967295 * 600 ⌝ }
+    ensures { λ r. ⌜ r ≤ sum + 4294967295 ⌝ }
+{
     match offer_of(book, row) {
-        RowOffer::Offered(o) => o.quantity,
-        RowOffer::Unread => 0,
+        RowOffer::Offered(o) => added(sum, o.quantity),
+        RowOffer::Unread => sum,
     }
 }
 
@@ -34,7 +37,7 @@ fn together(book: &[u8], first: usize, end: usize, cleared: &[u32; 600]) -> Sums
     let mut offered: u64 = 0;
     let mut sold: u64 = 0;
     for row in first..end {
-        offered = added(offered, quantity_of(book, row));
+        offered = with_row(offered, book, row);
         sold = added(sold, cleared[row]);
     }
     Sums {

@@ -2,13 +2,13 @@
 -- or behind the step before it, and no two with one resource number and one step.
 --
 -- In order: what a row without fault passed, by 6 and 7, by 8, by 10; rows that have one resource number and one step;
--- rows that are priced, and rows of edition 1.
+-- rows that are priced.
 -- Assumes nothing.
 use mathlib.Core.Path.{_≡_, refl, sym, _∙_}
 use mathlib.Core.Bool.{Bool, true}
 use Prim.Native.Nat.{ℕ, zero, suc, _-_, _<_}
 use native.Mathlib.Omega.{arith}
-use borrow.Author.Tests.{eq-eqb, eqb-true}
+use borrow.Author.Tests.{eq-eqb}
 use Rattle.laws.proofs.Cases.{by-order, by-equality}
 use Rattle.values.specs.Refusals.{andThen}
 use Rattle.values.specs.declared.Verdict.the-variants.{Passed}
@@ -20,7 +20,7 @@ use Rattle.steps.specs.Steps.{stepHolds}
 use Rattle.steps.proofs.Following.{Follows, step-past-zero, step-past-follows}
 use Rattle.limits.specs.Offers.{offerFault, repeatFault, stepFault, rowsFault}
 use Rattle.limits.specs.Ranges.{SoundOffer, PricedOffer}
-use Rattle.limits.proofs.PassingOffers.{offer-step, offer-sound, offer-in-range, offer-priced}
+use Rattle.limits.proofs.PassingOffers.{offer-sound, offer-in-range, offer-priced}
 
 module _ (pricesNeeded : Bool) (edition : ℕ) (offers : ℕ → Offer) (n : ℕ)
     (e : rowsFault pricesNeeded edition offers n ≡ Passed) where
@@ -96,10 +96,3 @@ module _ (pricesNeeded : Bool) (edition : ℕ) (offers : ℕ → Offer) (n : ℕ
 pub rows-priced : (edition : ℕ) (offers : ℕ → Offer) (n : ℕ) → rowsFault true edition offers n ≡ Passed
     → (row : ℕ) → row < n → PricedOffer (offers row)
 rows-priced edition offers n e row l = offer-priced edition (offers row) row (rows-values true edition offers n e row l)
-
--- Where rows of edition 1 have no fault, each has step 1.
-pub rows-single : (pricesNeeded : Bool) (offers : ℕ → Offer) (n : ℕ) → rowsFault pricesNeeded 1 offers n ≡ Passed
-    → (row : ℕ) → row < n → offers row .step ≡ 1
-rows-single pricesNeeded offers n e row l =
-    eqb-true (offers row .step) 1
-    (offer-step 1 (offers row) (offer-in-range pricesNeeded 1 (offers row) row (rows-values pricesNeeded 1 offers n e row l)))

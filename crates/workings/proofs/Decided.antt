@@ -11,23 +11,17 @@ use Rattle.laws.proofs.Answers.{same-answer}
 use Rattle.layout.specs.Form.{formFault}
 use Rattle.layout.specs.Read.{contentsOf}
 use Rattle.book.specs.Faults.{firstFault}
-use Rattle.workings.specs.Read.{editionBy, headBy, offersBy, rowOf}
+use Rattle.workings.specs.Read.{headBy, offersBy, rowOf}
 use Rattle.workings.specs.Works.{worksOf, workedBy}
 use Rattle.workings.specs.declared.read.Head.{Head}
 use Rattle.workings.specs.declared.read.RowOffer.{RowOffer}
 use Rattle.workings.specs.declared.works.WorksAnswer.{WorksAnswer}
-use Rattle.workings.proofs.read.edition_of.Reads as edition-of
 use Rattle.workings.proofs.read.head_of.Reads as head-of
 use Rattle.workings.proofs.read.rows_of.Reads as rows-of
 use Rattle.workings.proofs.read.offer_of.Reads as offer-of
 use Rattle.workings.proofs.works.workings.Reads as workings
 
 module _ (κs : Lfts 1) (book other : RefT (List ℕ)) (same : now book ≡ now other) where
-  -- the edition, by the contract of `edition_of`
-  pub edition-of-decided : (r s : ℕ)
-      → edition-of.Post κs (book, tt) r (book, tt) → edition-of.Post κs (other, tt) s (other, tt) → r ≡ s
-  edition-of-decided r s = same-answer (λ b. editionBy (formFault b) (contentsOf b)) same
-
   -- what block 0 states, by the contract of `head_of`
   pub head-of-decided : (r s : Head)
       → head-of.Post κs (book, tt) r (book, tt) → head-of.Post κs (other, tt) s (other, tt) → r ≡ s

@@ -21,24 +21,19 @@ use Rattle.layout.specs.Form.{formFault, editionOf, offerCount}
 use Rattle.layout.specs.Read.{contentsOf}
 use Rattle.layout.proofs.Passing.{form-passed-row}
 use Rattle.layout.proofs.Contained.{offer-of-row, contents-offers, contents-count}
-use Rattle.workings.specs.Read.{editionBy, headBy, offersBy, rowOf}
+use Rattle.workings.specs.Read.{headBy, offersBy, rowOf}
 use Rattle.workings.specs.declared.read.Head.the-variants.{Stated, Unread as Head·Unread}
 use Rattle.workings.specs.declared.read.RowOffer.the-variants.{Offered, Unread}
 
 -- ---- by the fault of the form
 
 module _ (v : Verdict) (c : Contents) where
-  pub edition-unread : (number place : ℕ) → v ≡ Refused number place → 0 ≡ editionBy v c
-  edition-unread number place e = rw e
-
-  pub edition-read : (n : ℕ) → v ≡ Passed → n ≡ c .edition → n ≡ editionBy v c
-  edition-read n e f = rw e f
-
   pub head-unread : (number place : ℕ) → v ≡ Refused number place → Head·Unread ≡ headBy v c
   head-unread number place e = rw e
 
-  pub head-stated : (p : Parameters) (n : ℕ) → v ≡ Passed → p ≡ c .parameters → n ≡ length (c .offers) → Stated p n ≡ headBy v c
-  head-stated p n e f g = rw e (ap₂ Stated f g)
+  pub head-stated : (edition : ℕ) (p : Parameters) (n : ℕ) → v ≡ Passed → edition ≡ c .edition → p ≡ c .parameters
+      → n ≡ length (c .offers) → Stated edition p n ≡ headBy v c
+  head-stated edition p n e f g h = rw (e, f, g, h) refl
 
   pub rows-unread : (number place : ℕ) → v ≡ Refused number place → 0 ≡ length (offersBy v c)
   rows-unread number place e = rw e

@@ -14,14 +14,9 @@ use Rattle.workings.specs.declared.read.Head.the-variants.{Stated, Unrea
 use Rattle.workings.specs.declared.read.RowOffer.{RowOffer}
 use Rattle.workings.specs.declared.read.RowOffer.the-variants.{Offered, Unread as RowOffer·Unread}
 
--- the edition, and 0 where it is not to be trusted
-abbrev pub editionBy : Verdict → Contents → ℕ
-editionBy Passed c = c .edition
-editionBy (Refused number place) c = 0
-
--- the parameters and the number of offers
+-- the edition, the parameters and the number of offers
 abbrev pub headBy : Verdict → Contents → Head
-headBy Passed c = Stated (c .parameters) (length (c .offers))
+headBy Passed c = Stated (c .edition) (c .parameters) (length (c .offers))
 headBy (Refused number place) c = Unread
 
 -- the offers that can be read: all, or none

@@ -1,4 +1,4 @@
-// What can be read of a book whose form is right, whether it is accepted or not: its edition, its parameters, and the offer of a row.
+// What can be read of a book whose form is right, whether it is accepted or not: what block 0 states, and the offer of a row.
 use block::SIZE;
 use layout::form::form;
 use layout::reader::edition;
@@ -14,11 +14,11 @@ ghost use Prim.Native.Nat.{_≤_};
 ghost use lib.ListN.{length};
 ghost use Rattle.layout.specs.Form.{formFault};
 ghost use Rattle.layout.specs.Read.{contentsOf};
-ghost use Rattle.workings.specs.Read.{editionBy, headBy, offersBy, rowOf};
+ghost use Rattle.workings.specs.Read.{headBy, offersBy, rowOf};
 
-// What block 0 states: the parameters, and how many offers follow.
+// What block 0 states: the edition, the parameters, and how many offers follow.
 pub enum Head {
-    Stated(Parameters, u32),
+    Stated(u32, Parameters, u32),
     // refused by 1 to 3: nothing in it is to be trusted
     Unread,
 }
@@ -30,16 +30,6 @@ pub enum RowOffer {
     Unread,
 }
 
-// The edition that a book states, and 0, which is none, of one refused by 1 to 3.
-pub fn edition_of(book: &[u8]) -> u32
-    ensures { λ r. ⌜ r ≡ editionBy (formFault (now (book .entry))) (contentsOf (now (book .entry))) ⌝ }
-{
-    if let Verdict::Refused(_, _) = form(book) {
-        return 0;
-    }
-    edition(book)
-}
-
 // What block 0 states.
 pub fn head_of(book: &[u8]) -> Head
     ensures { λ r. ⌜ r ≡ headBy (formFault (now (book .entry))) (contentsOf (now (book .entry))) ⌝ }
@@ -47,7 +37,11 @@ pub fn head_of(book: &[u8]) -> Head
     if let Verdict::Refused(_, _) = form(book) {
         return Head::Unread;
     }
-    Head::Stated(parameters_in(&book[0..SIZE]), offer_count(book))
+    Head::Stated(
+        edition(book),
+        parameters_in(&book[0..SIZE]),
+        offer_count(book),
+    )
 }
 
 // How many rows can be read: all that a book states, and none of one refused by 1 to 3.

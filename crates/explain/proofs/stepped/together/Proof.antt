@@ -14,11 +14,8 @@ abbrev μ-loop : tie.MeasureT-loop
 loop-holds : tie.Need-loop-holds Inv-loop μ-loop
 loop-holds c = search needs
 
-quantity-of-requires : tie.Need-quantity-of-requires Inv-loop μ-loop
-quantity-of-requires c κs = search needs
-
-added-requires : tie.Need-added-requires Inv-loop μ-loop
-added-requires c κs = search needs
+with-row-requires : tie.Need-with-row-requires Inv-loop μ-loop
+with-row-requires c κs = search needs
 
 mul-added : tie.Need-mul-added Inv-loop μ-loop
 mul-added c = search needs
@@ -26,8 +23,8 @@ mul-added c = search needs
 element-copy-out-added : tie.Need-element-copy-out-added Inv-loop μ-loop
 element-copy-out-added c = search needs
 
-added-requires-2 : tie.Need-added-requires-2 Inv-loop μ-loop
-added-requires-2 c κs = search needs
+added-requires : tie.Need-added-requires Inv-loop μ-loop
+added-requires c κs = search needs
 
 add-row : tie.Need-add-row Inv-loop μ-loop
 add-row c = search needs
@@ -48,11 +45,10 @@ together-spec =
     Inv-loop
     μ-loop
     loop-holds
-    quantity-of-requires
-    added-requires
+    with-row-requires
     mul-added
     element-copy-out-added
-    added-requires-2
+    added-requires
     add-row
     loop-less
     loop-again
