@@ -7,8 +7,9 @@
  * Every function answers every input, and its answer is proved to be the one described here. None keeps state, allocates or
  * looks at anything but its arguments, so any number of threads may call at once, also on one book. Of the C library they use
  * memcpy and memset. What one call writes must not overlap anything else that it is lent, and nobody else may write what it reads
- * or use what it writes while the call runs. A call uses less than 40 KiB of stack, ozp_write and ozp_convert less than 48, ozp_compare less than
- * 56 and ozp_report less than 72: that is measured, and no theorem bounds it.
+ * or use what it writes while the call runs. A call uses less than 40 KiB of stack, ozp_write and ozp_convert less than 48,
+ * ozp_compare less than 56, ozp_report less than 72, and ozp_explain, ozp_explain_head and ozp_explain_row less than 160: that is
+ * measured, and no theorem bounds it.
  *
  * A slice is a pointer and a number of entries, all of which may be read (and, of a buffer, written). Where the number is 0
  * the pointer is not followed and may be null; else it must be valid and aligned to its entries.
@@ -29,7 +30,7 @@ extern "C" {
 #endif
 
 #define OZP_VERSION_MAJOR 0
-#define OZP_VERSION_MINOR 8
+#define OZP_VERSION_MINOR 9
 #define OZP_VERSION_PATCH 0
 #define OZP_VERSION (OZP_VERSION_MAJOR * 1000000 + OZP_VERSION_MINOR * 1000 + OZP_VERSION_PATCH)
 
@@ -38,6 +39,7 @@ extern "C" {
 #define OZP_STEPS 10           /* the most steps of a resource, which count from 1 */
 #define OZP_REPORT_BYTES 32768 /* room for every text of ozp_report */
 #define OZP_WORDS_BYTES 256    /* room for every text of ozp_words */
+#define OZP_PAGE_BYTES 98304   /* room for every page of ozp_explain, ozp_explain_head and ozp_explain_row */
 
 #define OZP_NO_VALUE UINT32_MAX
 #define OZP_NO_AMOUNT UINT64_MAX
@@ -201,6 +203,20 @@ uint32_t ozp_days(uint32_t year);
 
 /* The text that the program `clear` prints for these bytes; a refusal is a text too. */
 ozp_text ozp_report(const uint8_t *book, size_t book_bytes, uint8_t *room, size_t room_bytes);
+
+/* The page of a book, for a person: what it states, its answer, the curve, where the total stops and why, what sets the price, the
+ * price levels around it, how the level that is divided is divided, and its rows, up to 15 of them each in full, more of them each
+ * in a line; or why it is refused, and what it lacks. A refused book has a page too. Plain letters in lines of at most 80, each
+ * ended by a line feed. */
+ozp_text ozp_explain(const uint8_t *book, size_t book_bytes, uint8_t *room, size_t room_bytes);
+
+/* The head of that page: all of it but the rows. Of a refused book it is the whole page. */
+ozp_text ozp_explain_head(const uint8_t *book, size_t book_bytes, uint8_t *room, size_t room_bytes);
+
+/* The page of one row, in full whatever the number of rows: its offer, its part of its price level, its turn for a spare tenth, what
+ * it clears and commits, and why it is paid or not. Of a book that is refused by 4 to 10 it is the row's offer, and its values with
+ * their ranges. OZP_NONE where the book has no such row, or is refused by 1 to 3. */
+ozp_text ozp_explain_row(const uint8_t *book, size_t book_bytes, size_t row, uint8_t *room, size_t room_bytes);
 
 /* A refusal in words: when it is given, a semicolon, and what its place is, as in the comments above. */
 ozp_text ozp_words(uint32_t number, uint8_t *room, size_t room_bytes);

@@ -13,6 +13,8 @@ THEOREMS = "## What is proved"
 TABLES = ["reference/proofs/Starred"]
 # every public function of a crate
 WORKINGS = ["workings"]
+# of what callers call, the page for a desk, which has a list of its own
+PAGE = [f"ozpinduru::explained::{name}" for name in ("ozp_explain", "ozp_explain_head", "ozp_explain_row")]
 
 
 def contracts(tree, names):
@@ -53,9 +55,11 @@ def theorems(tree):
 
 def lists(tree):
     """Each list of roots by its name, with what it says."""
+    page = list(contracts(tree, PAGE))
     return {
         "clear": ("the contract of `clear`", list(contracts(tree, CLEAR))),
-        "calls": ("the contracts of what else callers call", list(contracts(tree, CALLS))),
+        "calls": ("the contracts of what else callers call", [made for made in contracts(tree, CALLS) if made not in page]),
         "theorems": ("the theorems that README.md names", list(theorems(tree))),
         "workings": ("what the functions of `workings` promise", list(contracts(tree, WORKINGS))),
+        "page": ("what the pages for a desk promise", page),
     }

@@ -49,6 +49,7 @@ void days(const char *folder);
 void comparing(const char *folder);
 void expect_report(const uint8_t *book, size_t bytes, const char *text, const char *name);
 void texts(const char *folder);
+void explaining(const char *folder, const char *pages);
 void threads(const char *folder);
 void stacks(const char *folder);
 

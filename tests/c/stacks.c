@@ -8,7 +8,7 @@
 #include <stdlib.h>
 #include <string.h>
 
-#define STACK (256 * 1024)
+#define STACK (512 * 1024)
 #define PAINT 0x5C
 
 static uint8_t book[ROOM];
@@ -18,7 +18,7 @@ static ozp_row rows[ENTRIES];
 static ozp_parameters parameters;
 static uint32_t edition;
 static size_t count;
-static uint8_t room[OZP_REPORT_BYTES];
+static uint8_t room[OZP_PAGE_BYTES];
 
 static void *call_nothing(void *lent) { return lent; }
 static void *call_clear(void *lent) { clear(book, bytes, &out, ENTRIES, ENTRIES); return lent; }
@@ -28,6 +28,9 @@ static void *call_read(void *lent) { ozp_read(book, bytes, rows, ENTRIES); retur
 static void *call_write(void *lent) { ozp_write(edition, parameters, rows, count, room, sizeof room); return lent; }
 static void *call_convert(void *lent) { ozp_convert(book, bytes, room, sizeof room); return lent; }
 static void *call_report(void *lent) { ozp_report(book, bytes, room, sizeof room); return lent; }
+static void *call_explain(void *lent) { ozp_explain(book, bytes, room, sizeof room); return lent; }
+static void *call_explain_head(void *lent) { ozp_explain_head(book, bytes, room, sizeof room); return lent; }
+static void *call_explain_row(void *lent) { ozp_explain_row(book, bytes, count - 1, room, sizeof room); return lent; }
 static void *call_words(void *lent) { ozp_words(OZP_WRONG_LAYOUT, room, sizeof room); return lent; }
 static void *call_curve(void *lent) { ozp_curve(parameters); return lent; }
 static void *call_price_at(void *lent) { ozp_price_at(parameters, 10000); return lent; }
@@ -55,7 +58,8 @@ void stacks(const char *folder)
     static const struct { const char *name; void *(*call)(void *); size_t enough; } calls[] = {
         {"clear", call_clear, 40}, {"quote", call_quote, 40}, {"read", call_read, 40}, {"write", call_write, 48}, {"convert", call_convert, 48},
         {"curve", call_curve, 40}, {"price_at", call_price_at, 40}, {"report", call_report, 72}, {"words", call_words, 40},
-        {"compare", call_compare, 56},
+        {"compare", call_compare, 56}, {"explain", call_explain, 160}, {"explain_head", call_explain_head, 160},
+        {"explain_row", call_explain_row, 160},
     };
     static const char *const books[] = {"reference.book", "offers-600-length-20992.book", "steps-600-in-60-runs-of-ten.book"};
     void *stack = NULL;

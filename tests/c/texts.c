@@ -1,40 +1,13 @@
 /* The texts that are written into lent room. */
-#include "check.h"
+#include "rooms.h"
 
 #include <string.h>
-
-#define LONG (OZP_REPORT_BYTES + 64)
-
-static uint8_t room[LONG];
-
-static int untouched(size_t from)
-{
-    while (from < LONG && room[from] == UNTOUCHED_BYTE)
-        from++;
-    return from == LONG;
-}
-
-/* a text that stands at the start of the room, and nothing else changed */
-static void expect_text(ozp_text t, const char *text, const char *name)
-{
-    size_t bytes = strlen(text);
-    expect(t.kind == OZP_GIVEN && t.bytes == bytes && t.number == OZP_NO_VALUE && t.place == OZP_NO_VALUE, name, "count of the text");
-    expect(memcmp(room, text, bytes) == 0, name, "the text");
-    expect(untouched(bytes), name, "what stands behind the text");
-    memset(room, UNTOUCHED_BYTE, LONG);
-}
-
-static void expect_short(ozp_text t, const char *name)
-{
-    expect(t.kind == OZP_REFUSED && t.bytes == OZP_NO_AMOUNT && t.number == OZP_SHORT_ROOM && t.place == 0, name, "room too small");
-    expect(untouched(0), name, "room that is too small is left");
-}
 
 /* in room that is long, just long enough, one byte short, and none */
 void expect_report(const uint8_t *book, size_t bytes, const char *text, const char *name)
 {
     size_t length = strlen(text);
-    memset(room, UNTOUCHED_BYTE, LONG);
+    clean_room(LONG);
     expect_text(ozp_report(book, bytes, room, LONG), text, name);
     expect_text(ozp_report(book, bytes, room, length), text, name);
     expect_short(ozp_report(book, bytes, room, length - 1), name);
@@ -43,7 +16,7 @@ void expect_report(const uint8_t *book, size_t bytes, const char *text, const ch
 
 static void expect_words(uint32_t number, const char *text)
 {
-    memset(room, UNTOUCHED_BYTE, LONG);
+    clean_room(LONG);
     expect_text(ozp_words(number, room, OZP_WORDS_BYTES), text, "words");
     expect_text(ozp_words(number, room, strlen(text)), text, "words");
     expect_short(ozp_words(number, room, strlen(text) - 1), "words");
@@ -52,9 +25,9 @@ static void expect_words(uint32_t number, const char *text)
 
 static void expect_no_words(uint32_t number)
 {
-    ozp_text t = ozp_words(number, room, LONG);
-    expect(t.kind == OZP_NONE && t.bytes == 0 && t.number == OZP_NO_VALUE && t.place == OZP_NO_VALUE, "words", "no such refusal");
-    expect(untouched(0) && ozp_words(number, NULL, 0).kind == OZP_NONE, "words", "no such refusal leaves the room");
+    clean_room(LONG);
+    expect_none(ozp_words(number, room, LONG), "words");
+    expect_none(ozp_words(number, NULL, 0), "words");
 }
 
 void texts(const char *folder)

@@ -1,24 +1,37 @@
-"""What several parts of the page say: amounts, each with its raw units in brackets, and a row's offer."""
+"""What several parts of the page say: amounts, and a row's offer."""
 
 
-def parts(n, places, unit=" (", part=")"):
-    return f"{n // 10 ** places}.{n % 10 ** places:0{places}d}{unit}{n}{part}"
+def parts(n, places):
+    return f"{n // 10 ** places:,}.{n % 10 ** places:0{places}d}"
 
 
-def megawatts(tenths):
-    return parts(tenths, 1, " MW (")
+def tenths(n):
+    return parts(n, 1)
+
+
+def megawatts(n):
+    return f"{tenths(n)} MW"
 
 
 def price(cents):
     return parts(cents, 2)
 
 
+def percent(hundredths):
+    return f"{parts(hundredths, 2)} percent"
+
+
 def dollars(mills):
-    return parts(mills, 3, " dollars (", " mills)")
+    return parts(mills, 3)
 
 
-def offer_lines(edition, row, o):
-    at = ", no price entered" if o.price is None else " offered at zero" if o.price == 0 else " at " + price(o.price)
-    yield f"row {row}, resource {o.resource}: " if edition == 1 else f"row {row}, step {o.step} of resource {o.resource}\n  "
-    yield f"{megawatts(o.quantity)}{at}\n"
-    yield f"  {'flexible' if o.block is None else 'minimum block ' + megawatts(o.block)}, stamp {o.stamp}\n"
+def named(edition, o):
+    """The offer of a row by its resource, and in edition 2 by its step."""
+    return f"step {o.step} of resource {o.resource}" if edition == 2 else f"resource {o.resource}"
+
+
+def offer_lines(edition, o):
+    at = ", no price entered" if o.price is None else " at zero, a price" if o.price == 0 else f" at {price(o.price)}"
+    block = "flexible" if o.block is None else f"minimum block {megawatts(o.block)}"
+    yield f"row {o.row}, {named(edition, o)}: {megawatts(o.quantity)}{at}\n"
+    yield f"  seller {o.seller}, {block}, stamp {o.stamp}\n"

@@ -19,7 +19,7 @@
 static void constants(void)
 {
     printf("constants %d %d %d %d %d", OZP_GIVEN, OZP_NONE, OZP_REFUSED, OZP_MISSING, OZP_DIFFERS);
-    printf(" %d %d %d %d %d", OZP_BOOK_BYTES, OZP_ROWS, OZP_STEPS, OZP_REPORT_BYTES, OZP_WORDS_BYTES);
+    printf(" %d %d %d %d %d %d", OZP_BOOK_BYTES, OZP_ROWS, OZP_STEPS, OZP_REPORT_BYTES, OZP_WORDS_BYTES, OZP_PAGE_BYTES);
     printf(" %u %llu\n", (unsigned)OZP_NO_VALUE, (unsigned long long)OZP_NO_AMOUNT);
 }
 

@@ -9,7 +9,7 @@ from ozpinduru import _library as c  # noqa: E402
 
 assert ROW.size == ctypes.sizeof(c.Row)
 print("constants", c.GIVEN, c.NONE, c.REFUSED, c.MISSING, c.DIFFERS, c.BOOK_BYTES, c.ROWS, c.STEPS, c.REPORT_BYTES,
-      c.WORDS_BYTES, c.NO_VALUE, 2**64 - 1)
+      c.WORDS_BYTES, c.PAGE_BYTES, c.NO_VALUE, 2**64 - 1)
 for struct in c.STRUCTS:
     fields = "".join(f" {name} {getattr(struct, name).offset}" for name, _ in struct._fields_)
     print(f"{struct.__name__} {ctypes.sizeof(struct)} {ctypes.alignment(struct)}{fields}")

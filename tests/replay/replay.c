@@ -1,6 +1,6 @@
-/* Replays calls, each in two threads at once, and compares what they give with what the oracle gives.
+/* Replays calls, each in two threads at once, and compares what they give with what is due.
  *
- *     replay < CALLS     as `oracle calls` writes them
+ *     replay PAGES < CALLS     as `oracle calls` writes them, and tests/explain/pages.py the pages of their books
  *
  * The book and the buffers are lent from memory of just their length, so that valgrind or the address sanitizer sees every
  * access past them.
@@ -88,6 +88,8 @@ static const char *difference(const struct call *call, ozp_answer a, const uint3
         return "what is written back";
     if (!is_converted(call))
         return "the other edition";
+    if (!is_explained(call))
+        return "a page";
     return is_reported(call) ? NULL : "the report";
 }
 
@@ -121,24 +123,31 @@ static const char *replay_twice(struct call *call)
     return own != NULL ? own : other;
 }
 
-int main(void)
+int main(int words, char **word)
 {
     struct call call;
     unsigned calls = 0, differ = 0;
     const char *differs;
+    if (words != 2) {
+        fprintf(stderr, "usage: replay PAGES < CALLS\n");
+        return 2;
+    }
+    read_pages(word[1]);
     while (fread(&call.due, sizeof call.due, 1, stdin) == 1) {
+        call.at = calls;
         call.book = taken(call.due.book_bytes, 1);
         call.cleared = taken(call.due.filled, sizeof *call.cleared);
         call.committed = taken(call.due.filled, sizeof *call.committed);
         differs = replay_twice(&call);
         if (differs != NULL)
-            fprintf(stderr, "call %u: %s differs from the oracle's\n", calls, differs);
+            fprintf(stderr, "call %u: %s differs from what is due\n", calls, differs);
         differ += differs != NULL;
         calls++;
         free(call.book);
         free(call.cleared);
         free(call.committed);
     }
+    free_pages();
     printf("%u calls, each in two threads at once, %u differ\n", calls, differ);
     return calls > 0 && differ == 0 ? 0 : 1;
 }

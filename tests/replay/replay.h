@@ -14,6 +14,7 @@ struct head {
 };
 
 struct call {
+    unsigned at; /* which one it is, from 0 */
     struct head due;
     uint8_t *book;
     uint32_t *cleared, *committed; /* the entries that are filled */
@@ -28,5 +29,10 @@ int is_reported(const struct call *call);
 int is_compared(const struct call *call);
 int is_written_back(const struct call *call);
 int is_converted(const struct call *call);
+
+/* the pages of all calls, from a file */
+void read_pages(const char *path);
+void free_pages(void);
+int is_explained(const struct call *call);
 
 #endif

@@ -1,6 +1,6 @@
-"""Replays calls through the Python module, each in two threads at once, and compares what they give with what the oracle gives.
+"""Replays calls through the Python module, each in two threads at once, and compares what they give with what is due.
 
-    python3 tests/replay/replay.py < CALLS     as `oracle calls` writes them
+    python3 tests/replay/replay.py PAGES < CALLS     as `oracle calls` writes them, and tests/explain/pages.py their pages
 """
 import collections
 import ctypes
@@ -97,6 +97,26 @@ def converted(due, book):
     return ozpinduru.convert(other) == book and len(other) == len(book)
 
 
+def pages(data):
+    """The pages that are due, by the number of their call: `page`, `head` or a row, and the text, empty where there is none."""
+    at, found = 0, collections.defaultdict(list)
+    while at < len(data):
+        end = data.index(b"\n", at) + 1
+        call, which, count = data[at:end].split()
+        at = end + int(count)
+        found[int(call)].append((which.decode(), data[end:at].decode()))
+    return found
+
+
+def explained(book, which):
+    """A page of a book, empty where there is none."""
+    try:
+        whole = {"page": ozpinduru.explain, "head": ozpinduru.explain_head}
+        return whole[which](book) if which in whole else ozpinduru.explain(book, int(which))
+    except IndexError:
+        return ""
+
+
 def called(due, book, filled):
     """What differs where the package's own functions are called; their buffers are never short."""
     offers, price = read(due, book), due.price if due.kind == 1 else None
@@ -121,17 +141,20 @@ def called(due, book, filled):
     return None if ozpinduru.report(book) == printed(due, rows) else "the report"
 
 
-def replay(*call):
+def replay(texts, *call):
     start.wait()
+    if not texts or any(explained(call[1], which) != text for which, text in texts):
+        return "a page"
     return lent(*call) or called(*call)
 
 
 def main():
     count = differ = 0
+    texts = pages(pathlib.Path(sys.argv[1]).read_bytes())
     with ThreadPoolExecutor(2) as pool:
         for call in calls(sys.stdin.buffer.read()):
-            for what in {thread.result() for thread in [pool.submit(replay, *call) for _ in range(2)]} - {None}:
-                print(f"call {count}: {what} differs from the oracle's", file=sys.stderr)
+            for what in {thread.result() for thread in [pool.submit(replay, texts[count], *call) for _ in range(2)]} - {None}:
+                print(f"call {count}: {what} differs from what is due", file=sys.stderr)
                 differ += 1
             count += 1
     print(f"{count} calls, each in two threads at once, {differ} differ")

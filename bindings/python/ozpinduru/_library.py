@@ -6,7 +6,7 @@ import os
 import pathlib
 from typing import Any
 
-VERSION = (0, 8, 0)
+VERSION = (0, 9, 0)
 
 # kinds
 GIVEN, NONE, REFUSED, MISSING, DIFFERS = 1, 2, 3, 4, 5
@@ -14,7 +14,7 @@ GIVEN, NONE, REFUSED, MISSING, DIFFERS = 1, 2, 3, 4, 5
 # a number of 32 bits that has no value
 NO_VALUE = 2**32 - 1
 
-BOOK_BYTES, ROWS, STEPS, REPORT_BYTES, WORDS_BYTES = 20_992, 600, 10, 32_768, 256
+BOOK_BYTES, ROWS, STEPS, REPORT_BYTES, WORDS_BYTES, PAGE_BYTES = 20_992, 600, 10, 32_768, 256, 98_304
 
 
 def _struct(name: str, *fields: tuple[type, str]) -> Any:
@@ -50,6 +50,9 @@ def _declared(c: ctypes.CDLL) -> ctypes.CDLL:
         ("make_whole", _amount, [_word] * 4),
         ("days", _word, [_word]),
         ("report", Text, book + buffer),
+        ("explain", Text, book + buffer),
+        ("explain_head", Text, book + buffer),
+        ("explain_row", Text, book + [_size] + buffer),
         ("words", Text, [_word] + buffer),
         ("version", _word, []),
     ]:

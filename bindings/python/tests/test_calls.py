@@ -171,7 +171,7 @@ class Words(unittest.TestCase):
             self.assertRaisesRegex(ValueError, f"^no refusal has number {number}$", words, number)
         self.assertEqual(report(book([])), "cleared 0\nprice -\ndaily 0\nyear 0\n")
         self.assertEqual(report(reference()).splitlines()[4], "13 33 50 637500")
-        self.assertEqual(version(), "0.8.0")
+        self.assertEqual(version(), "0.9.0")
 
     def test_names_and_words_are_the_header_s(self):
         header = (ROOT / "include" / "ozpinduru.h").read_text()

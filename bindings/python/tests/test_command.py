@@ -122,7 +122,7 @@ class Says(unittest.TestCase):
         self.assertEqual(done.stdout.splitlines()[0], "cleared 1000.0 MW at $375.00 per MW-day")
 
     def test_help(self):
-        for words in ([], ["clear"], ["rows"], ["curve"], ["compare"], ["read"], ["write"]):
+        for words in ([], ["clear"], ["rows"], ["curve"], ["compare"], ["read"], ["write"], ["convert"], ["explain"]):
             status, said, wrong = ozp(*words, "--help")
             self.assertEqual((status, said.startswith("usage: ozp"), wrong), (0, True, ""))
 

@@ -1,6 +1,7 @@
 //! Clears a capacity auction: an offer book goes in as bytes; cleared megawatts, the price and the make-whole payments come
-//! out; and such books are written. Every answer is the proved library's own; this crate gives its numbers Rust's types. What is not there is
-//! `None`, never 0: a clearing with no price cleared nothing, and an offer whose price is missing is unpriced.
+//! out; such books are written, and how one clears is explained to a person. Every answer is the proved library's own; this crate
+//! gives its numbers Rust's types. What is not there is `None`, never 0: a clearing with no price cleared nothing, and an offer
+//! whose price is missing is unpriced.
 //!
 //! ```
 //! use ozpinduru::{clear, CentsPerMwDay, Mills, Tenths};
@@ -26,6 +27,7 @@ mod comparison;
 mod converting;
 mod curve;
 mod exact;
+mod explaining;
 pub mod raw;
 mod refusal;
 mod text;
@@ -39,6 +41,7 @@ pub use comparison::{compare, Comparison};
 pub use converting::{convert, convert_into};
 pub use curve::{curve, price_at, Curve, Point};
 pub use exact::ExactPrice;
+pub use explaining::{explain, explain_head, explain_row};
 pub use refusal::{Buffer, Field, Refusal};
 pub use text::{report, version, words};
 pub use units::{CentsPerMwDay, DollarsPerMwYear, Mills, Tenths};

@@ -22,6 +22,8 @@ pub const STEPS: usize = 10;
 pub const REPORT_BYTES: usize = 32_768;
 /// Room for every text of `ozp_words`.
 pub const WORDS_BYTES: usize = 256;
+/// Room for every page of `ozp_explain`, `ozp_explain_head` and `ozp_explain_row`.
+pub const PAGE_BYTES: usize = 98_304;
 
 /// What a field holds that has no value.
 pub const NO_VALUE: u32 = u32::MAX;
@@ -105,6 +107,9 @@ extern "C" {
     pub fn ozp_make_whole(kind: u32, price: u32, cleared: u32, committed: u32) -> u64;
     pub fn ozp_days(year: u32) -> u32;
     pub fn ozp_report(book: *const u8, book_bytes: usize, room: *mut u8, room_bytes: usize) -> Text;
+    pub fn ozp_explain(book: *const u8, book_bytes: usize, room: *mut u8, room_bytes: usize) -> Text;
+    pub fn ozp_explain_head(book: *const u8, book_bytes: usize, room: *mut u8, room_bytes: usize) -> Text;
+    pub fn ozp_explain_row(book: *const u8, book_bytes: usize, row: usize, room: *mut u8, room_bytes: usize) -> Text;
     pub fn ozp_words(number: u32, room: *mut u8, room_bytes: usize) -> Text;
     pub fn ozp_version() -> u32;
 }

@@ -33,7 +33,7 @@ pub fn version() -> (u32, u32, u32) {
 }
 
 /// The text that a call writes into room of so many bytes, if there is one.
-fn written(bytes: usize, call: impl FnOnce(&mut [u8]) -> raw::Text) -> Option<String> {
+pub(crate) fn written(bytes: usize, call: impl FnOnce(&mut [u8]) -> raw::Text) -> Option<String> {
     let mut room = vec![0; bytes];
     let text = call(&mut room);
     (text.kind == raw::GIVEN).then(|| String::from_utf8_lossy(&room[..text.bytes as usize]).into_owned())

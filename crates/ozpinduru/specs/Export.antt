@@ -20,6 +20,6 @@ pub record Returned (b cleared committed : List ℕ) (r : OzpAnswer) (cleared′
   pub answer : r ≡ exported (answerTo b (length cleared) (length committed)) (length (contentsOf b .offers))
   pub outcome : Outcome b cleared committed (answerTo b (length cleared) (length committed)) cleared′ committed′
 
--- the version of the interface: 0.8.0
+-- the version of the interface: 0.9.0
 abbrev pub version : ℕ
-version = 8000
+version = 9000

@@ -98,5 +98,5 @@ pub extern "C" fn ozp_days(year: u32) -> u32
 pub extern "C" fn ozp_version() -> u32
     ensures { λ r. ⌜ r ≡ version ⌝ }
 {
-    8000
+    9000
 }

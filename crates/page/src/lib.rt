@@ -1,43 +1,64 @@
-// What the program `explain` says to a person: each function writes some lines to standard output, a form with its numbers,
-// and answers whether they were taken.
+// Pages of a book for a desk, in lent room: what the book states, its answer and why, and its rows; or why it is refused and all
+// that it lacks.
 //
-// The forms stand here as they are read, with marks for the numbers (crate `text`). Every zero has its reason beside it, every
-// number of megawatts or dollars the raw units, and no line is longer than 80 letters.
-pub mod bought;
-pub mod edition;
-pub mod refused;
-pub mod rows;
-pub mod stated;
-pub mod totals;
+// Each function puts its lines over the room from a place on and answers the place behind them. What does not fit is not put, and
+// the place goes on all the same, so that it says how long the text is. The lines and their wording are those of crate `lines`; which
+// numbers a page shows, and in which order, is what is promised here.
+mod accepted;
+mod division;
+mod facts;
+mod row;
+mod rungs;
 
-use libc::STDOUT_FILENO;
-use text::put_form;
-use values::Value;
+use accepted::put_accepted;
+use call::Answer;
+use call::quote;
+use lines::stated::put_stated;
+use refusing::put_refused;
+use refusing::put_unread;
+pub use row::put_row_page;
+use rowpages::put_rows;
+use values::head::Parameters;
+use workings::read::Head;
+use workings::read::head_of;
+ghost use Rattle.call.specs.Answer.{answerOf};
+ghost use Rattle.forms.specs.Shown.{Shows};
+ghost use Rattle.page.specs.Page.{answeredParts, headParts, pageParts};
 
-// Writes a form with its numbers.
-fn say(form: &[u8], numbers: &[u64]) -> bool {
-    let mut text = [0u8; 2048];
-    let end = put_form(&mut text, 0, form, numbers);
-    io::write_all(STDOUT_FILENO, &text[..end])
-}
-
-// 1 where offers have steps: in edition 2.
-fn has_steps(edition: u32) -> u64 {
-    (edition == 2) as u64
-}
-
-// 1 where a value is given.
-fn if_given(value: Value) -> u64 {
-    match value {
-        Value::Given(_) => 1,
-        Value::Missing => 0,
+// Puts what a book that can be read answers: why it is refused, or how it clears.
+fn put_answered(
+    room: &mut [u8],
+    at: usize,
+    book: &[u8],
+    edition: u32,
+    p: Parameters,
+    offers: u32,
+) -> usize
+    ensures { λ r. ⌜ Shows (now (room .entry)) at (answeredParts (now (book .entry)) edition p offers (answerOf (now (book .entry)))) (now (room .exit)) r ⌝ }
+{
+    match quote(book) {
+        Answer::Cleared(k) => put_accepted(room, at, book, edition, p, offers, k),
+        Answer::Refused(number, place) => put_refused(room, at, book, edition, p, number, place),
     }
 }
 
-// The words for a value: 0 where it is missing, 1 where it is given as zero, 2 for any other number.
-fn words_for(value: Value) -> u64 {
-    match value {
-        Value::Given(number) => { if number == 0 { 1 } else { 2 } }
-        Value::Missing => 0,
+// Puts the head of a book's page: all of it but the rows.
+pub fn put_head(room: &mut [u8], at: usize, book: &[u8]) -> usize
+    ensures { λ r. ⌜ Shows (now (room .entry)) at (headParts (now (book .entry))) (now (room .exit)) r ⌝ }
+{
+    match head_of(book) {
+        Head::Stated(edition, p, offers) => {
+            let behind = put_stated(room, at, edition, p, offers);
+            put_answered(room, behind, book, edition, p, offers)
+        }
+        Head::Unread => put_unread(room, at, book),
     }
+}
+
+// Puts a book's page: its head, and its rows where it is accepted.
+pub fn put_page(room: &mut [u8], at: usize, book: &[u8]) -> usize
+    ensures { λ r. ⌜ Shows (now (room .entry)) at (pageParts (now (book .entry))) (now (room .exit)) r ⌝ }
+{
+    let behind = put_head(room, at, book);
+    put_rows(room, behind, book)
 }

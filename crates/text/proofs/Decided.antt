@@ -1,7 +1,6 @@
 -- What is put into a buffer is one text, and the place behind it is one place: any two outcomes that a contract allows coincide.
 --
--- In order: what `Written` leaves; bytes, one byte, bytes with a fill, a number, a number with a point. `put_form` alone leaves
--- open what a form reads.
+-- In order: what `Written` leaves; bytes, one byte, bytes with a fill, a number, a number with a point.
 -- Assumes nothing.
 use mathlib.Core.Path.{_≡_, sym, _∙_}
 use mathlib.Core.List.{List}

@@ -2,8 +2,7 @@
 -- Assumes nothing.
 use mathlib.Core.Path.{_≡_, refl}
 use mathlib.Core.List.{[], _∷_}
-use Rattle.text.specs.Put.{put}
-use Rattle.text.specs.inner.Put.{rightText}
+use Rattle.text.specs.Put.{put, rightText}
 use Rattle.text.specs.Number.{digitCount, numberText}
 use Rattle.text.specs.inner.Number.{decimalText}
 

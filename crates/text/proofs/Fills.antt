@@ -6,8 +6,7 @@ use Prim.Native.Nat.{ℕ, _+_, _-_, _≤_, _<_}
 use native.Mathlib.Nat.{zero-sub}
 use native.Mathlib.Omega.{arith}
 use lib.ListN.{length, replicate, length-append, length-replicate, replicate-append-replicate}
-use Rattle.text.specs.Put.{Written}
-use Rattle.text.specs.inner.Put.{rightText}
+use Rattle.text.specs.Put.{Written, rightText}
 use Rattle.text.proofs.Puts.{written-append}
 
 pub length-right : (width fill : ℕ) (bytes : List ℕ) → length (rightText width fill bytes) ≡ width - length bytes + length bytes

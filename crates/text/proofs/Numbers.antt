@@ -8,10 +8,9 @@ use native.Mathlib.Omega.{arith}
 use lib.ListN.{length, take, length-append}
 use lib.Seq.{append-snoc}
 use Rattle.io.specs.Digits.{digits}
-use Rattle.text.specs.Put.{Written}
-use Rattle.text.specs.inner.Put.{rightText}
-use Rattle.text.specs.Number.{digitCount, numberText}
-use Rattle.text.specs.inner.Number.{restText, decimalText}
+use Rattle.text.specs.Put.{Written, rightText}
+use Rattle.text.specs.Number.{digitCount, numberText, restText}
+use Rattle.text.specs.inner.Number.{decimalText}
 use Rattle.text.proofs.DigitCounts.{digitCount-most}
 use Rattle.text.proofs.Puts.{written-append, written-taken}
 use Rattle.text.proofs.Fills.{length-right}

@@ -1,12 +1,12 @@
 -- What it is to put bytes at a place of a buffer: all of them where they fit from there to the end, and else none.
--- In order: the buffer after, the place after, and both as what a function shows.
+-- In order: the buffer after, the place after, and both as what a function shows; bytes with a fill in front.
 -- Assumes nothing.
-use Prim.Native.Nat.{ℕ, _+_, min}
+use Prim.Native.Nat.{ℕ, _+_, _-_, min}
 use mathlib.Core.Path.{_≡_}
 use mathlib.Core.Bool.{Bool, cond}
-use mathlib.Core.List.{List}
+use mathlib.Core.List.{List, _++_}
 use lib.Dec.{leb}
-use lib.ListN.{length}
+use lib.ListN.{length, replicate}
 use lib.Seq.{paste}
 use Rattle.io.specs.Counts.{Counts}
 
@@ -28,3 +28,7 @@ pub record Written (out : List ℕ) (at : ℕ) (bytes after : List ℕ) (end : �
   pub place : end ≡ putEnd out at bytes
   -- what follows of these, as `&out[..end]` asks it
   pub counts : Counts end after
+
+-- the bytes with as many of `fill` in front as make them `width` bytes; bytes that are as many or more stand alone
+unfoldable pub rightText : ℕ → ℕ → List ℕ → List ℕ
+rightText width fill bytes = replicate (width - length bytes) fill ++ bytes

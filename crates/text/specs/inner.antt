@@ -1,2 +1,1 @@
-pub mod Put
 pub mod Number

@@ -1,19 +1,15 @@
 // Lines of text in one buffer, so that a program writes once.
 //
 // Each function puts a text at a place, all of it where it fits from there to the end and else nothing, and answers the place
-// behind it; `put_form` alone puts piece by piece. No place that is answered lies past the end, so a caller goes on from it,
-// and lends `&out[..at]`, with no test.
-mod form;
+// behind it. No place that is answered lies past the end, so a caller goes on from it, and lends `&out[..at]`, with no test.
 mod number;
 
-pub use form::put_form;
 pub use number::put_decimal;
 pub use number::put_number;
 use numbers::excess_size;
 use numbers::lesser_size;
 ghost use mathlib.Core.List.{[], _∷_};
-ghost use Rattle.text.specs.Put.{Written};
-ghost use Rattle.text.specs.inner.Put.{rightText};
+ghost use Rattle.text.specs.Put.{Written, rightText};
 
 // Puts bytes.
 pub fn put_bytes(out: &mut [u8], at: usize, bytes: &[u8]) -> usize

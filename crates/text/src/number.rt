@@ -5,8 +5,7 @@ use crate::put_right;
 use numbers::lesser_size;
 ghost use mathlib.Core.Path.{_≡_};
 ghost use Prim.Native.Nat.{_^_, _≤_, _<_, min};
-ghost use Rattle.text.specs.Put.{Written};
-ghost use Rattle.text.specs.inner.Put.{rightText};
+ghost use Rattle.text.specs.Put.{Written, rightText};
 ghost use Rattle.text.specs.Number.{numberText};
 ghost use Rattle.text.specs.inner.Number.{decimalText};
 

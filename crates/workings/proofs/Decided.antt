@@ -11,7 +11,7 @@ use Rattle.laws.proofs.Answers.{same-answer}
 use Rattle.layout.specs.Form.{formFault}
 use Rattle.layout.specs.Read.{contentsOf}
 use Rattle.book.specs.Faults.{firstFault}
-use Rattle.workings.specs.Read.{headBy, offersBy, rowOf}
+use Rattle.workings.specs.Read.{headBy, offersBy, rowOf, earlierRow}
 use Rattle.workings.specs.Works.{worksOf, workedBy}
 use Rattle.workings.specs.declared.read.Head.{Head}
 use Rattle.workings.specs.declared.read.RowOffer.{RowOffer}
@@ -19,6 +19,7 @@ use Rattle.workings.specs.declared.works.WorksAnswer.{WorksAnswer}
 use Rattle.workings.proofs.read.head_of.Reads as head-of
 use Rattle.workings.proofs.read.rows_of.Reads as rows-of
 use Rattle.workings.proofs.read.offer_of.Reads as offer-of
+use Rattle.workings.proofs.read.earlier_row.Reads as earlier-row
 use Rattle.workings.proofs.works.workings.Reads as workings
 
 module _ (κs : Lfts 1) (book other : RefT (List ℕ)) (same : now book ≡ now other) where
@@ -39,9 +40,17 @@ module _ (κs : Lfts 1) (book other : RefT (List ℕ)) (same : now book ≡ now 
       → r ≡ s
   offer-of-decided row r s = same-answer (λ b. rowOf (offersBy (formFault b) (contentsOf b)) row) same
 
-  -- the workings of a row, by the contract of `workings`
-  pub workings-decided : (row : ℕ) (r s : WorksAnswer)
-      → workings.Post κs (book, (row, tt)) r (book, (row, tt))
-      → workings.Post κs (other, (row, tt)) s (other, (row, tt))
+  -- the first row of a row's resource, by the contract of `earlier_row`
+  pub earlier-row-decided : (row r s : ℕ)
+      → earlier-row.Post κs (book, (row, tt)) r (book, (row, tt))
+      → earlier-row.Post κs (other, (row, tt)) s (other, (row, tt))
       → r ≡ s
-  workings-decided row r s = same-answer (λ b. workedBy (firstFault b) (worksOf (contentsOf b) row)) same
+  earlier-row-decided row r s = same-answer (λ b. earlierRow (offersBy (formFault b) (contentsOf b)) row) same
+
+  -- the workings of a row, a rung and a place, by the contract of `workings`
+  pub workings-decided : (row rung place : ℕ) (r s : WorksAnswer)
+      → workings.Post κs (book, (row, (rung, (place, tt)))) r (book, (row, (rung, (place, tt))))
+      → workings.Post κs (other, (row, (rung, (place, tt)))) s (other, (row, (rung, (place, tt))))
+      → r ≡ s
+  workings-decided row rung place r s =
+      same-answer (λ b. workedBy (firstFault b) (worksOf (contentsOf b) row rung place)) same

@@ -1,3 +1,8 @@
 pub mod Offered
+pub mod Earlier
+pub mod Contested
+pub mod Rowed
+pub mod Columned
+pub mod Contained
 pub mod Worked
 pub mod Decided

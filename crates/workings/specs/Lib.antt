@@ -1,2 +1,3 @@
 pub mod Read
 pub mod Works
+pub mod inner

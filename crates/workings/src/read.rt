@@ -10,11 +10,12 @@ use values::head::parameters_in;
 use values::place::Offer;
 use values::place::offer_in;
 ghost use mathlib.Core.Path.{_≡_};
-ghost use Prim.Native.Nat.{_≤_};
+ghost use Prim.Native.Nat.{_≤_, _<_};
 ghost use lib.ListN.{length};
-ghost use Rattle.layout.specs.Form.{formFault};
+ghost use Rattle.values.specs.Contents.{offerAt};
+ghost use Rattle.layout.specs.Form.{formFault, editionOf};
 ghost use Rattle.layout.specs.Read.{contentsOf};
-ghost use Rattle.workings.specs.Read.{headBy, offersBy, rowOf};
+ghost use Rattle.workings.specs.Read.{headBy, offersBy, rowOf, earlierRow};
 
 // What block 0 states: the edition, the parameters, and how many offers follow.
 pub enum Head {
@@ -63,4 +64,32 @@ pub fn offer_of(book: &[u8], row: usize) -> RowOffer
     } else {
         RowOffer::Unread
     }
+}
+
+// The resource of a row that is there.
+fn resource_of(book: &[u8], edition: u32, row: usize) -> u32
+    requires { ⌜ (edition ≡ editionOf (now book)) × (row < length (offersBy (formFault (now book)) (contentsOf (now book)))) ⌝ }
+    ensures { λ r. ⌜ r ≡ offerAt (offersBy (formFault (now (book .entry))) (contentsOf (now (book .entry)))) row .resource ⌝ }
+{
+    let offer = offer_in(row_bytes(book, 1, row), edition);
+    offer.resource
+}
+
+// The first row of a row's resource: the row itself where none before it has the resource, or where it isn't there.
+pub fn earlier_row(book: &[u8], row: usize) -> usize
+    ensures { λ r. ⌜ r ≡ earlierRow (offersBy (formFault (now (book .entry))) (contentsOf (now (book .entry)))) row ⌝ }
+{
+    if rows_of(book) <= row {
+        return row;
+    }
+    let stated = edition(book);
+    let resource = resource_of(book, stated, row);
+    let mut earlier: usize = 0;
+    while earlier < row {
+        if resource_of(book, stated, earlier) == resource {
+            return earlier;
+        }
+        earlier += 1;
+    }
+    row
 }

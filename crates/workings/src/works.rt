@@ -1,28 +1,32 @@
-// The workings of an accepted book: where its total stops, and a row's share of its level.
+// The workings of an accepted book: where its total stops, its price, a row, the price levels around the one at which the total
+// stops, and the contest for the spare tenths of that one.
+use crate::joined::works_at;
+use crate::row::WorkedRow;
+use crate::spares::Contest;
 use book::opened;
+use ladder::rung::Ladder;
 use layout::form::lengths;
+use pricing::ClearingPrice;
 use reading::read_rows;
 use reasons::share::RowShare;
-use reasons::share::row_share_at;
 use reasons::stop::Stop;
-use reasons::stop::stop_at;
-use region::region_curve;
 use values::Verdict;
 use values::head::Parameters;
 ghost use mathlib.Core.Path.{_≡_};
-ghost use Rattle.limits.specs.Ranges.{Ranged};
-ghost use Rattle.region.specs.Region.{regionCurve};
-ghost use Rattle.levels.specs.inner.Rows.{RowLists, listed};
 ghost use Rattle.layout.specs.Read.{contentsOf};
 ghost use Rattle.book.specs.Faults.{firstFault};
 ghost use Rattle.book.specs.inner.Opening.{Opened};
-ghost use Rattle.reasons.specs.inner.Share.{Positive};
-ghost use Rattle.workings.specs.Works.{worksAt, worksOf, workedBy};
+ghost use Rattle.workings.specs.Works.{worksOf, workedBy};
 
-// Where the total stops, and the share of one row.
+// Where the total stops and at which price it sells; the share of one row in its level, and what it works out to; the price
+// levels around the one at which the total stops, with one of them; and the contest for the spare tenths of that one.
 pub struct Works {
     pub stop: Stop,
+    pub price: ClearingPrice,
     pub share: RowShare,
+    pub row: WorkedRow,
+    pub ladder: Ladder,
+    pub contest: Contest,
 }
 
 // The workings of a book, or its refusal.
@@ -32,23 +36,18 @@ pub enum WorksAnswer {
     Refused(u32, u32),
 }
 
-// The workings of a row of n, on the curve that parameters select.
-fn works_at(p: Parameters, prices: &[u32], quantities: &[u32], n: usize, row: usize) -> Works
-    requires { ⌜ Ranged p × RowLists (now prices) (now quantities) n × Positive (now quantities) n ⌝ }
-    ensures { λ r. ⌜ r ≡ worksAt (regionCurve p) (listed (now (prices .entry)) (now (quantities .entry)) n) row ⌝ }
-{
-    let stop = stop_at(region_curve(p), prices, quantities, n);
-    let level = stop.level;
-    Works {
-        stop,
-        share: row_share_at(prices, quantities, n, level.total, row),
-    }
-}
-
-// The workings of a row of a book whose edition, parameters and number of rows have passed. Its rows are read once, into columns.
-fn works_opened(book: &[u8], edition: u32, p: Parameters, rows: u32, row: usize) -> WorksAnswer
+// The workings of a book whose edition, parameters and number of rows have passed. Its rows are read once, into columns.
+fn works_opened(
+    book: &[u8],
+    edition: u32,
+    p: Parameters,
+    rows: u32,
+    row: usize,
+    rung: usize,
+    place: usize,
+) -> WorksAnswer
     requires { ⌜ Opened (now book) edition p rows ⌝ }
-    ensures { λ r. ⌜ r ≡ workedBy (firstFault (now (book .entry))) (worksOf (contentsOf (now (book .entry))) row) ⌝ }
+    ensures { λ r. ⌜ r ≡ workedBy (firstFault (now (book .entry))) (worksOf (contentsOf (now (book .entry))) row rung place) ⌝ }
 {
     let mut prices = [0u32; 600];
     let mut quantities = [0u32; 600];
@@ -72,13 +71,25 @@ fn works_opened(book: &[u8], edition: u32, p: Parameters, rows: u32, row: usize)
     if let Verdict::Refused(number, place) = found {
         return WorksAnswer::Refused(number, place);
     }
-    WorksAnswer::Worked(works_at(p, &prices, &quantities, rows as usize, row))
+    WorksAnswer::Worked(works_at(
+        p,
+        &prices,
+        &quantities,
+        &leasts,
+        &resources,
+        &stamps,
+        &steps,
+        rows as usize,
+        row,
+        rung,
+        place,
+    ))
 }
 
-// The workings of a row of a book, or the book's refusal. Where the row isn't there, where the total stops is worked all the
-// same.
-pub fn workings(book: &[u8], row: usize) -> WorksAnswer
-    ensures { λ r. ⌜ r ≡ workedBy (firstFault (now (book .entry))) (worksOf (contentsOf (now (book .entry))) row) ⌝ }
+// The workings of a book: of a row, of a rung of the ladder of price levels and of a place in the contest, each counted from 0; or
+// the book's refusal. Of a row, a rung or a place that isn't there it says so, and the rest is worked all the same.
+pub fn workings(book: &[u8], row: usize, rung: usize, place: usize) -> WorksAnswer
+    ensures { λ r. ⌜ r ≡ workedBy (firstFault (now (book .entry))) (worksOf (contentsOf (now (book .entry))) row rung place) ⌝ }
 {
     if let Verdict::Refused(number, place) = lengths(book) {
         return WorksAnswer::Refused(number, place);
@@ -88,5 +99,13 @@ pub fn workings(book: &[u8], row: usize) -> WorksAnswer
     if let Verdict::Refused(number, place) = fault {
         return WorksAnswer::Refused(number, place);
     }
-    works_opened(book, head.edition, head.parameters, head.rows, row)
+    works_opened(
+        book,
+        head.edition,
+        head.parameters,
+        head.rows,
+        row,
+        rung,
+        place,
+    )
 }

@@ -1,6 +1,6 @@
 //! One call through the C interface, beside the oracle's.
 
-use crate::{converting, curve, days, pairs, reading, texts, writing};
+use crate::{converting, curve, days, explaining, pairs, reading, texts, writing};
 use oracle::random::{Call, Rng};
 use oracle::{book, Outcome, Row};
 use ozpinduru::raw::{self, Answer, NO_AMOUNT, NO_VALUE};
@@ -45,6 +45,7 @@ pub fn call(call: &Call, seed: u64) -> Result<Compared, String> {
         pairs::pair(book, rng)?,
         writing::write(book, &read, rng)?,
         converting::convert(book, rng)?,
+        explaining::explain(book, &read, rng)?,
     ];
     same("whether the book is unchanged", book == call.book, true)?;
     Ok(Compared { outcome, kinds: kinds.concat() })

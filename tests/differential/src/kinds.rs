@@ -2,7 +2,7 @@
 
 /// The kinds, as they are printed. A call is of one kind of the first line, of one of the second, and of any of the others;
 /// of a curve's prices each is counted.
-pub const KINDS: [&[&str]; 21] = [
+pub const KINDS: [&[&str]; 22] = [
     &["valid", "faulty", "damaged", "stray"],
     &["not laid out", "no offers", "1 to 15 offers", "16 to 599", "600"],
     &["refused by 1", "by 2", "by 3", "by 4", "by 5", "by 6", "by 7", "by 8", "by 9", "by 10"],
@@ -60,6 +60,7 @@ pub const KINDS: [&[&str]; 21] = [
     ],
     &["written", "written in edition 2", "not written by 3", "not written by 19", "not written by 5", "not written by 7"],
     &["not written by 8", "not written by 10", "not written by 20", "step of more than 8 bits", "step past 1 in edition 1"],
+    &["answer explained", "refusal explained", "row explained", "row of a refused book explained", "no such row"],
     &["converted up", "converted down", "not converted, not sound", "not converted by 11", "not converted by 20"],
     &[
         "parameter left out",

@@ -7,6 +7,7 @@ mod compare;
 mod converting;
 mod curve;
 mod days;
+mod explaining;
 mod kinds;
 mod layouts;
 mod pairs;

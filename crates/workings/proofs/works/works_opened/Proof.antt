@@ -9,9 +9,10 @@ use Rattle.columns.specs.inner.Columns.{Columns, columnsOf, empty, Blank}
 use Rattle.columns.proofs.Offers.{blank-room}
 use Rattle.book.specs.Faults.{firstFault}
 use Rattle.sale.specs.inner.Sale.{Stands}
-use Rattle.sale.proofs.Sales.{columns-rows, columns-ordered}
+use Rattle.sale.proofs.Sales.{columns-rows, columns-ordered, leasts-long}
 use Rattle.call.proofs.Calls.{opened-inside, opened-stands}
-use Rattle.workings.proofs.Worked.{answer-refused, answer-worked, first-rows, works-stand}
+use Rattle.workings.proofs.Worked.{answer-refused, answer-worked, first-rows}
+use Rattle.workings.proofs.Contained.{works-stand}
 use Rattle.workings.proofs.works.works_opened.Statement.{statement}
 use Rattle.workings.proofs.works.works_opened.Tie as tie
 
@@ -87,15 +88,29 @@ slice-aggregate-works-at c = search needs
 slice-aggregate-works-at-2 : tie.Need-slice-aggregate-works-at-2
 slice-aggregate-works-at-2 c = search needs
 
+slice-aggregate-works-at-3 : tie.Need-slice-aggregate-works-at-3
+slice-aggregate-works-at-3 c = search needs
+
+slice-aggregate-works-at-4 : tie.Need-slice-aggregate-works-at-4
+slice-aggregate-works-at-4 c = search needs
+
+slice-aggregate-works-at-5 : tie.Need-slice-aggregate-works-at-5
+slice-aggregate-works-at-5 c = search needs
+
+slice-aggregate-works-at-6 : tie.Need-slice-aggregate-works-at-6
+slice-aggregate-works-at-6 c = search needs
+
 works-at-requires : tie.Need-works-at-requires
 works-at-requires c κs =
-    let ok = stands (c .before .before) in
-    (subst Ranged (sym (ok .own)) (ok .clearable .parameters), columns-rows _ _ _ _ ok, columns-ordered _ _ _ _ ok .positive)
+    let ok = stands (c .before .before .before .before .before .before) in (
+      (subst Ranged (sym (ok .own)) (ok .clearable .parameters), columns-rows _ _ _ _ ok, leasts-long _ _ _ _ ok),
+      columns-ordered _ _ _ _ ok,
+    )
 
 returns-2 : tie.Need-returns-2
 returns-2 c =
-    let told = c .before .before .before in
-    answer-worked _ _ _ (accepted told) (works-stand _ _ _ (columns told) _ _ (stands told) (c .works-at .ensures))
+    let told = c .before .before .before .before .before .before .before in
+    answer-worked _ _ _ (accepted told) (works-stand _ _ _ (columns told) _ _ _ _ (stands told) (c .works-at .ensures))
 
 pub works-opened-spec : {M : Type 1} → statement M
 works-opened-spec =
@@ -113,5 +128,9 @@ works-opened-spec =
     enum-told
     slice-aggregate-works-at
     slice-aggregate-works-at-2
+    slice-aggregate-works-at-3
+    slice-aggregate-works-at-4
+    slice-aggregate-works-at-5
+    slice-aggregate-works-at-6
     works-at-requires
     returns-2)

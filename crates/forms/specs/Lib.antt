@@ -1,0 +1,6 @@
+pub mod Put
+pub mod Number
+pub mod Mark
+pub mod Form
+pub mod Shown
+pub mod inner

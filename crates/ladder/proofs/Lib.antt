@@ -1,0 +1,3 @@
+pub mod Climbs
+pub mod Rungs
+pub mod Decided

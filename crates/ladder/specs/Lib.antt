@@ -1,0 +1,3 @@
+pub mod Prices
+pub mod Ladder
+pub mod inner

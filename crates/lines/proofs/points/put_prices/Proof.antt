@@ -1,0 +1,97 @@
+-- `put_prices` puts a form that shows its numbers.
+-- Assumes nothing.
+use Rattle.lines.specs.Points.{pricesNumbers}
+use Rattle.wording.proofs.Showing.{showing}
+use borrow.Author.Needs.{needs}
+use Rattle.lines.proofs.points.put_prices.Statement.{statement}
+use Rattle.lines.proofs.points.put_prices.Tie as tie
+
+by-margin-requires : tie.Need-by-margin-requires
+by-margin-requires c κs = search needs
+
+weights-of-requires : tie.Need-weights-of-requires
+weights-of-requires c κs = search needs
+
+number-held-requires : tie.Need-number-held-requires
+number-held-requires c κs = search needs
+
+number-held-requires-2 : tie.Need-number-held-requires-2
+number-held-requires-2 c κs = search needs
+
+number-held-requires-3 : tie.Need-number-held-requires-3
+number-held-requires-3 c κs = search needs
+
+excess-requires : tie.Need-excess-requires
+excess-requires c κs = search needs
+
+cast-left : tie.Need-cast-left
+cast-left c = search needs
+
+slice-aggregate-put-form : tie.Need-slice-aggregate-put-form
+slice-aggregate-put-form c = search needs
+
+cast-t21 : tie.Need-cast-t21
+cast-t21 c = search needs
+
+cast-t22 : tie.Need-cast-t22
+cast-t22 c = search needs
+
+first-cents-requires : tie.Need-first-cents-requires
+first-cents-requires c κs = search needs
+
+cast-t24 : tie.Need-cast-t24
+cast-t24 c = search needs
+
+net-cents-requires : tie.Need-net-cents-requires
+net-cents-requires c κs = search needs
+
+cast-t26 : tie.Need-cast-t26
+cast-t26 c = search needs
+
+slice-aggregate-put-form-2 : tie.Need-slice-aggregate-put-form-2
+slice-aggregate-put-form-2 c = search needs
+
+put-form-requires : tie.Need-put-form-requires
+put-form-requires c κs = search needs
+
+same-length : tie.Need-same-length
+same-length c = search needs
+
+returns : tie.Need-returns
+unfolding pricesNumbers
+returns c =
+    let last = c .before .before .before .before .before in
+    showing _ _ (c .before .before .put-form .ensures)
+    (simp (
+      last .net-cents .ensures,
+      last .before .before .first-cents .ensures,
+      last .before .before .before .before .before .excess .ensures,
+      last .before .before .before .before .before .before .number-held3 .ensures,
+      last .before .before .before .before .before .before .before .number-held2 .ensures,
+      last .before .before .before .before .before .before .before .before .number-held .ensures,
+      last .before .before .before .before .before .before .before .before .before .weights-of .ensures .same,
+      last .before .before .before .before .before .before .before .before .before .before .by-margin .ensures,
+    ))
+
+pub put-prices-spec : {M : Type 1} → statement M
+put-prices-spec =
+    tie.close
+    (tie.spec
+    by-margin-requires
+    weights-of-requires
+    number-held-requires
+    number-held-requires-2
+    number-held-requires-3
+    excess-requires
+    cast-left
+    slice-aggregate-put-form
+    cast-t21
+    cast-t22
+    first-cents-requires
+    cast-t24
+    net-cents-requires
+    cast-t26
+    slice-aggregate-put-form-2
+    put-form-requires
+    same-length
+    returns)

@@ -1,0 +1,63 @@
+-- `put_total` puts a form that shows its numbers.
+-- Assumes nothing.
+use Rattle.lines.specs.Total.{totalNumbers}
+use Rattle.wording.proofs.Showing.{showing}
+use borrow.Author.Needs.{needs}
+use Rattle.lines.proofs.total.put_total.Statement.{statement}
+use Rattle.lines.proofs.total.put_total.Tie as tie
+
+tenth-past-requires : tie.Need-tenth-past-requires
+tenth-past-requires c κs = search needs
+
+slice-aggregate-put-form : tie.Need-slice-aggregate-put-form
+slice-aggregate-put-form c = search needs
+
+cast-t13 : tie.Need-cast-t13
+cast-t13 c = search needs
+
+first-true-requires : tie.Need-first-true-requires
+first-true-requires c κs = search needs
+
+cast-t17 : tie.Need-cast-t17
+cast-t17 c = search needs
+
+cast-t18 : tie.Need-cast-t18
+cast-t18 c = search needs
+
+cast-t19 : tie.Need-cast-t19
+cast-t19 c = search needs
+
+slice-aggregate-put-form-2 : tie.Need-slice-aggregate-put-form-2
+slice-aggregate-put-form-2 c = search needs
+
+put-form-requires : tie.Need-put-form-requires
+put-form-requires c κs = search needs
+
+same-length : tie.Need-same-length
+same-length c = search needs
+
+returns : tie.Need-returns
+unfolding totalNumbers
+returns c =
+    let last = c .before .before .before .before .before .before .before in
+    showing _ _ (c .before .before .put-form .ensures)
+    (simp (
+      last .first-true .ensures,
+      last .before .before .before .before .before .tenth-past .ensures .numbers,
+    ))
+
+pub put-total-spec : {M : Type 1} → statement M
+put-total-spec =
+    tie.close
+    (tie.spec
+    tenth-past-requires
+    slice-aggregate-put-form
+    cast-t13
+    first-true-requires
+    cast-t17
+    cast-t18
+    cast-t19
+    slice-aggregate-put-form-2
+    put-form-requires
+    same-length
+    returns)

@@ -1,0 +1,5 @@
+pub mod Stated
+pub mod Sold
+pub mod Points
+pub mod Total
+pub mod inner

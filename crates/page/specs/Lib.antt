@@ -1,0 +1,5 @@
+pub mod Facts
+pub mod Levels
+pub mod Division
+pub mod Accepted
+pub mod Page

@@ -1,0 +1,5 @@
+pub mod Parts
+pub mod Facts
+pub mod Missing
+pub mod Refused
+pub mod Stated

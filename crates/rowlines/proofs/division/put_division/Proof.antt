@@ -1,0 +1,48 @@
+-- `put_division` puts a form that shows its numbers.
+-- Assumes nothing.
+use Rattle.rowlines.specs.Division.{divisionNumbers}
+use Rattle.wording.proofs.Showing.{showing}
+use borrow.Author.Needs.{needs}
+use Rattle.rowlines.proofs.division.put_division.Statement.{statement}
+use Rattle.rowlines.proofs.division.put_division.Tie as tie
+
+cast-some : tie.Need-cast-some
+cast-some c = search needs
+
+slice-aggregate-put-form : tie.Need-slice-aggregate-put-form
+slice-aggregate-put-form c = search needs
+
+first-true-requires : tie.Need-first-true-requires
+first-true-requires c κs = search needs
+
+cast-t25 : tie.Need-cast-t25
+cast-t25 c = search needs
+
+slice-aggregate-put-form-2 : tie.Need-slice-aggregate-put-form-2
+slice-aggregate-put-form-2 c = search needs
+
+put-form-requires : tie.Need-put-form-requires
+put-form-requires c κs = search needs
+
+same-length : tie.Need-same-length
+same-length c = search needs
+
+returns : tie.Need-returns
+unfolding divisionNumbers
+returns c =
+    let last = c .before .before .before .before in
+    showing _ _ (c .before .before .put-form .ensures)
+    (rw (last .first-true .ensures))
+
+pub put-division-spec : {M : Type 1} → statement M
+put-division-spec =
+    tie.close
+    (tie.spec
+    cast-some
+    slice-aggregate-put-form
+    first-true-requires
+    cast-t25
+    slice-aggregate-put-form-2
+    put-form-requires
+    same-length
+    returns)

@@ -1,0 +1,6 @@
+pub mod Facts
+pub mod Together
+pub mod Row
+pub mod Table
+pub mod Rows
+pub mod inner

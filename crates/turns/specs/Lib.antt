@@ -1,0 +1,3 @@
+pub mod Order
+pub mod Turn
+pub mod inner
