@@ -3,8 +3,8 @@
 use mathlib.Core.Path.{refl}
 use borrow.Author.Needs.{needs}
 use Rattle.call.proofs.Calls.{opened-inside}
-use Rattle.call.proofs.rows.clear_many.Statement.{statement}
-use Rattle.call.proofs.rows.clear_many.Tie as tie
+use Rattle.call.proofs.measured.clear_many.Statement.{statement}
+use Rattle.call.proofs.measured.clear_many.Tie as tie
 
 slice-aggregate-clear-rows : tie.Need-slice-aggregate-clear-rows
 slice-aggregate-clear-rows c = search needs
