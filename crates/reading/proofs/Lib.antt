@@ -1,3 +1,4 @@
 pub mod Tests
 pub mod Values
+pub mod Behind
 pub mod Decided

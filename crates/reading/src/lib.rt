@@ -1,7 +1,8 @@
 // The rows of a section: read once into columns, with their values' faults and a repeated resource among those before.
+mod stored;
 mod tested;
 
-use crate::tested::past_tested;
+use crate::stored::past_stored;
 use crate::tested::values_tested;
 use layout::reader::row_bytes;
 use limits::offers::offer_fault;
@@ -53,7 +54,15 @@ fn values_fault(
         let fault = if o.step == 1 {
             offer_fault(needed, edition, o, row)
         } else {
-            past_tested(book, edition, first, needed, o, before, row)
+            past_stored(
+                needed,
+                edition,
+                o,
+                resources[before],
+                steps[before],
+                prices[before],
+                row,
+            )
         };
         if let Verdict::Refused(number, place) = fault {
             return Verdict::Refused(number, place);

@@ -18,7 +18,7 @@ ghost use Rattle.reading.specs.inner.Rows.{RowAt, ValuesTested};
 
 // 6, where prices are needed, 7 and 10 of a row past step 1, whose own offer is at hand: the row before it is read, for which row 0
 // stands itself, since it does not follow itself.
-pub(crate) fn past_tested(
+fn past_tested(
     book: &[u8],
     edition: u32,
     first: usize,

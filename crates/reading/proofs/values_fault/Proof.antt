@@ -1,10 +1,11 @@
 -- `values_fault` finds the first fault by 6, 7 or 10, and reads the rows up to it into the columns. The loop's invariant: the
 -- rows passed had no such fault, and stand in the columns, and the last of them is the row before the next.
 -- Assumes nothing.
-use mathlib.Core.Path.{_≡_, sym, _∙_}
+use mathlib.Core.Path.{_≡_, sym, ap, _∙_}
 use mathlib.Core.Logic.{⊎-elim}
-use Prim.Native.Nat.{ℕ, _≤_, _-_}
+use Prim.Native.Nat.{ℕ, _≤_, _<_, _-_}
 use native.Mathlib.Omega.{arith}
+use lib.ListN.{length-set}
 use borrow.Author.Needs.{needs}
 use Rattle.laws.proofs.Filling.{length-filling, in-filling}
 use Rattle.values.specs.declared.Verdict.the-variants.{Passed}
@@ -12,11 +13,12 @@ use Rattle.values.specs.declared.place.Offer.{Offer}
 use Rattle.limits.specs.inner.Rows.{rowFault}
 use Rattle.limits.proofs.Tested.{rowFault-first}
 use Rattle.values.specs.Contents.{offerAt}
-use Rattle.layout.specs.Read.{rowOffer, rowOffers}
+use Rattle.layout.specs.Read.{rowOffers}
 use Rattle.layout.proofs.Contained.{offer-of-row}
 use Rattle.columns.specs.inner.Columns.{columnsOf}
 use Rattle.reading.specs.inner.Rows.{ValuesRead}
-use Rattle.reading.proofs.Tests.{row-at, row-fault}
+use Rattle.columns.proofs.Turns.{columns-more}
+use Rattle.reading.proofs.Behind.{room-fewer, held-fault}
 use Rattle.reading.proofs.Values.{values-none, values-more, values-refused, values-end}
 use Rattle.reading.proofs.values_fault.Statement.{statement}
 use Rattle.reading.proofs.values_fault.Tie as tie
@@ -103,32 +105,59 @@ slice-write-steps c = in-filling _ _ _ (c .before .before .before .before .befor
 offer-fault-requires : tie.Need-offer-fault-requires Inv-loop μ-loop
 offer-fault-requires c κs = search needs
 
-past-tested-requires : tie.Need-past-tested-requires Inv-loop μ-loop
-past-tested-requires c κs =
-    let read = c .before .before .before .before in
-    let at = read .before .before .before in
-    (row-at _ _ _ _ _ (read .before .before .loop-test .taken) (as-offer read) _ (entry at .pre .0) (at .loop .inv .1 .0), c .if1 .left)
+-- the row before the one at hand has its place where that one has
+behind-in : (at : tie.At-loop Inv-loop μ-loop) (long : ℕ) → at .loop .row < long → at .loop .before < long
+behind-in at long l = omega (arith, at .loop .inv .1 .0)
 
--- the row is tested by its own values at step 1, and past it with the row before
-row-told : (c : tie.Joined1 Inv-loop μ-loop) →
-    let read = c .before .before .before .before in
-    let at = read .before .before .before in
-    let a = entry at .args in
-    c .if1 .fault ≡ rowFault (a .needed) (a .edition) (rowOffer (a .book .now) (a .edition) (a .first) (at .loop .row - 1)) (read .offer-in .result) (at .loop .row)
-row-told c =
-    ⊎-elim
-    (λ w. w .2 ∙ w .1 .ensures ∙ sym (rowFault-first _ _ _ _ _ (w .0 .taken)))
-    (λ w. w .2 ∙ w .1 .ensures)
-    (c .if1 .came)
+mul-past-stored : tie.Need-mul-past-stored Inv-loop μ-loop
+mul-past-stored c = search needs
 
--- and its fault is that of the definition
+slice-read-past-stored : tie.Need-slice-read-past-stored Inv-loop μ-loop
+slice-read-past-stored c =
+    let at = c .before .before .before .before .before .before .before .before in
+    simp length-set (behind-in at _ (in-filling _ _ _ (at .loop .inv .1 .1 .read .resource) (omega arith)))
+
+mul-past-stored-2 : tie.Need-mul-past-stored-2 Inv-loop μ-loop
+mul-past-stored-2 c = search needs
+
+slice-read-past-stored-2 : tie.Need-slice-read-past-stored-2 Inv-loop μ-loop
+slice-read-past-stored-2 c =
+    let at = c .before .before .before .before .before .before .before .before .before in
+    simp length-set (behind-in at _ (in-filling _ _ _ (at .loop .inv .1 .1 .read .step) (omega arith)))
+
+mul-past-stored-3 : tie.Need-mul-past-stored-3 Inv-loop μ-loop
+mul-past-stored-3 c = search needs
+
+slice-read-past-stored-3 : tie.Need-slice-read-past-stored-3 Inv-loop μ-loop
+slice-read-past-stored-3 c =
+    let at = c .before .before .before .before .before .before .before .before .before .before in
+    simp length-set (behind-in at _ (in-filling _ _ _ (at .loop .inv .1 .1 .read .price) (omega arith)))
+
+past-stored-requires : tie.Need-past-stored-requires Inv-loop μ-loop
+past-stored-requires c κs = search needs
+
+-- the row is tested by its own values at step 1, and past it with what is held of the row before: its fault is that of the definition
 as-fault : (c : tie.Joined1 Inv-loop μ-loop) →
     let at = c .before .before .before .before .before .before .before in
     let row = at .loop .row in
     c .if1 .fault ≡ rowFault (entry at .args .needed) (entry at .args .edition) (offer at (row - 1)) (offer at row) row
 as-fault c =
     let read = c .before .before .before .before in
-    row-fault _ _ _ _ _ (read .before .before .loop-test .taken) (as-offer read) _ (row-told c)
+    let at = read .before .before .before in
+    let a = entry at .args in
+    let row = at .loop .row in
+    let l = read .before .before .loop-test .taken in
+    let own = as-offer read in
+    ⊎-elim
+    (λ w. w .2 ∙ w .1 .ensures ∙ sym (rowFault-first _ _ (offer at (row - 1)) _ _ (w .0 .taken)))
+    (λ w.
+    w .5
+    ∙ held-fault _ _ _ _
+    (columns-more _ _ (at .loop .inv .1 .1 .read) own (c .before .before .before .number-held .ensures) (c .before .before .least-of .ensures))
+    (room-fewer _ _ (omega arith) (entry at .pre .1))
+    (at .loop .inv .1 .1 .found) _ own _ (at .loop .inv .1 .0) (w .0 .left) (w .4 .ensures))
+    (c .if1 .came)
+    ∙ ap (λ (o : Offer). rowFault (a .needed) (a .edition) (offer at (row - 1)) o row) own
 
 enum-known-fault : tie.Need-enum-known-fault Inv-loop μ-loop
 enum-known-fault c = search needs
@@ -238,7 +267,13 @@ values-fault-spec =
     mul-steps
     slice-write-steps
     offer-fault-requires
-    past-tested-requires
+    mul-past-stored
+    slice-read-past-stored
+    mul-past-stored-2
+    slice-read-past-stored-2
+    mul-past-stored-3
+    slice-read-past-stored-3
+    past-stored-requires
     enum-known-fault
     same-length
     same-length-2
