@@ -49,7 +49,6 @@ pub(crate) fn clear_rows(
         edition,
         1,
         rows,
-        true,
         prices,
         quantities,
         leasts,
