@@ -7,9 +7,8 @@
  * Every function answers every input, and its answer is proved to be the one described here. None keeps state, allocates or
  * looks at anything but its arguments, so any number of threads may call at once, also on one book. Of the C library they use
  * memcpy and memset. What one call writes must not overlap anything else that it is lent, and nobody else may write what it reads
- * or use what it writes while the call runs. A call uses less than 40 KiB of stack, ozp_write and ozp_convert less than 48,
- * ozp_compare less than 56, ozp_report less than 72, and ozp_explain, ozp_explain_head and ozp_explain_row less than 160: that is
- * measured, and no theorem bounds it.
+ * or use what it writes while the call runs. A call uses less than 40 KiB of stack, ozp_compare less than 56, ozp_report
+ * less than 72, and ozp_explain, ozp_explain_head and ozp_explain_row less than 160: that is measured, and no theorem bounds it.
  *
  * A slice is a pointer and a number of entries, all of which may be read (and, of a buffer, written). Where the number is 0
  * the pointer is not followed and may be null; else it must be valid and aligned to its entries.

@@ -11,8 +11,8 @@ CALLS = ["call::quote", "book::verdict", "book::soundness", "layout::reader::own
 # the theorems with a hyphen in their name that this section of README.md names, and tables of theorems
 THEOREMS = "## What is proved"
 TABLES = ["reference/proofs/Starred"]
-# every public function of a crate
-WORKINGS = ["workings"]
+# every public function of two crates
+WORKINGS = ["readout", "workings"]
 # of what callers call, the page for a desk, which has a list of its own
 PAGE = [f"ozpinduru::explained::{name}" for name in ("ozp_explain", "ozp_explain_head", "ozp_explain_row")]
 
@@ -60,6 +60,6 @@ def lists(tree):
         "clear": ("the contract of `clear`", list(contracts(tree, CLEAR))),
         "calls": ("the contracts of what else callers call", [made for made in contracts(tree, CALLS) if made not in page]),
         "theorems": ("the theorems that README.md names", list(theorems(tree))),
-        "workings": ("what the functions of `workings` promise", list(contracts(tree, WORKINGS))),
+        "workings": ("what the functions of `readout` and `workings` promise", list(contracts(tree, WORKINGS))),
         "page": ("what the pages for a desk promise", page),
     }

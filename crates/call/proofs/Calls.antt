@@ -3,7 +3,7 @@
 -- In order: a book whose edition, parameters and number of rows have passed; the fault of a call; buffers that are long enough; what a
 -- call with no fault may count on; a refusal's outcome and a clearing's; the answer with no buffers.
 -- Assumes nothing.
-use mathlib.Core.Path.{_≡_, refl, sym, ap, ap₂, subst, subst₂, _∙_}
+use mathlib.Core.Path.{_≡_, refl, sym, ap, ap₂, subst, _∙_}
 use mathlib.Core.Bool.{true}
 use mathlib.Core.List.{List}
 use Prim.Native.Nat.{ℕ, _≤_}
@@ -23,13 +23,12 @@ use Rattle.layout.specs.Form.{editionOf, offerCount}
 use Rattle.layout.specs.Read.{rowOffers, contentsOf}
 use Rattle.layout.specs.inner.Read.{Inside}
 use Rattle.layout.proofs.Contained.{contents-edition, contents-offers, contents-count}
-use Rattle.columns.specs.inner.Columns.{Columns, Blank, Listed}
+use Rattle.columns.specs.inner.Columns.{Columns, Blank, ColumnsRead}
 use Rattle.columns.proofs.Offers.{blank-listed}
 use Rattle.book.specs.Faults.{firstFault}
 use Rattle.book.specs.inner.Opening.{beforeRows, Opened}
 use Rattle.reading.specs.inner.Rows.{RowsRead}
 use Rattle.book.proofs.Stages.{first-before, before-form, form-inside}
-use Rattle.reading.proofs.Values.{rows-stored}
 use Rattle.book.proofs.Accepted.{accepted-clearable}
 use Rattle.sale.specs.inner.Sale.{Stands, ClearedAs}
 use Rattle.sale.specs.Payment.{clearingOf, clearedList, committedList}
@@ -66,18 +65,17 @@ module _ (b : List ℕ) (edition : ℕ) (p : Parameters) (n : ℕ) (o : Opened b
       ∙ sym (first-before b ∙ andThen-next (beforeRows b) _ (o .passed)))
       (g ∙ ap (λ m. bufferFault m cleared committed) (o .rows))
 
-  -- rows that passed stand in the columns as what the book says
+  -- the rows of an accepted book stand in the columns as what it says
   pub opened-stands : (before after : Columns) (found : Verdict) → firstFault b ≡ Passed → Blank n before
-      → RowsRead true edition (rowOffers b edition 1 n) found before after → found ≡ Passed → Stands (contentsOf b) p n after
-  opened-stands before after found accepted blank read passed =
+      → RowsRead edition (rowOffers b edition 1 n) found before after → Stands (contentsOf b) p n after
+  opened-stands before after found accepted blank read =
       record {
         own = o .parameters;
         count = o .rows;
         clearable = accepted-clearable b accepted;
         listed =
             blank-listed (contentsOf b .offers) n before after (o .rows) blank
-            (rows-stored true edition (contentsOf b .offers)
-            (subst₂ (λ (offers : List Offer) (v : Verdict). RowsRead true edition offers v before after) opened-offers passed read));
+            (subst (λ (offers : List Offer). ColumnsRead offers (length offers) before after) opened-offers (read .read));
       }
 
 -- ---- the fault of a call

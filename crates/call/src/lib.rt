@@ -1,7 +1,8 @@
 // The call: a book of bytes and two result buffers go in; cleared megawatts, the price and the payments come out.
+mod measured;
 mod rows;
 
-use crate::rows::clear_measured;
+use crate::measured::clear_measured;
 use layout::form::lengths;
 use sale::Clearing;
 use values::Verdict;

@@ -1,46 +1,38 @@
 -- What is done with a book that is converted, by the way that the code takes.
 --
--- In order: a book that is refused; the other book, put into the room.
+-- In order: a book that is refused; room that is too short; the other book, made in the room.
 -- Assumes nothing.
-use mathlib.Core.Path.{_≡_, refl, sym, ap, ap₂, _∙_}
-use mathlib.Core.List.{List, _++_}
+use mathlib.Core.Path.{_≡_, refl, sym, ap, _∙_}
+use mathlib.Core.List.{List}
 use Prim.Native.Nat.{ℕ, _≤_, _<_}
-use native.Mathlib.Omega.{arith}
 use lib.Dec.{leb}
-use lib.ListN.{length, take, drop}
+use lib.ListN.{length}
+use borrow.Author.Tests.{le-leb, lt-leb}
 use Rattle.block.specs.Bytes.{byte}
-use Rattle.values.specs.Refusals.{unless, shortRoom, bufferBy}
-use Rattle.values.specs.declared.Verdict.{Verdict}
+use Rattle.values.specs.Refusals.{unless, shortRoom}
 use Rattle.values.specs.declared.Verdict.the-variants.{Passed, Refused}
-use Rattle.values.proofs.Firsts.{andThen-next, andThen-refused, andThen-left, andThen-right}
+use Rattle.values.proofs.Firsts.{unless-true, unless-false, andThen-next, andThen-refused, andThen-left, andThen-right}
 use Rattle.layout.specs.Read.{contentsOf}
-use Rattle.layout.proofs.Passing.{form-passed-length, form-passed-count, form-passed-blocks}
 use Rattle.book.specs.Faults.{soundFault}
-use Rattle.book.proofs.Accepted.{sound-form}
-use Rattle.encoding.specs.Numbers.{zeros}
+use Rattle.making.specs.inner.Made.{blanked}
 use Rattle.convert.specs.Convert.{downFault, converted, convertFault}
-use Rattle.convert.specs.inner.Converts.{ownFault, otherMade, Converts}
+use Rattle.convert.specs.inner.Converts.{ownFault, otherMade}
 use Rattle.convert.proofs.Converted.{converted-length}
 use Rattle.convert.proofs.Made.{other-made}
 use Rattle.convert.proofs.Told.{convert-own}
 use Rattle.plain.specs.declared.structs.OzpText.{OzpText}
-use Rattle.words.specs.Texts.{textGiven, textRefused, textOf, textBy, Told}
-use Rattle.words.proofs.Telling.{given-some}
+use Rattle.words.specs.Texts.{textGiven, textRefused}
 use Rattle.convert.specs.Converted.{Converted}
 
-module _ (b room made : List ℕ) (blank : made ≡ zeros 20992) {v : Verdict} {made′ : List ℕ} (m : Converts b made v made′) where
+module _ (b room : List ℕ) where
   -- a book that is refused leaves the room as it was
-  pub converted-refused : (number place : ℕ) {r : OzpText} → v ≡ Refused number place → r ≡ textRefused number place
-      → Converted b room r room
+  pub converted-refused : (number place : ℕ) {r : OzpText} → ownFault b ≡ Refused number place → r ≡ textRefused number place → Converted b room r room
   converted-refused number place e f =
       let fault : convertFault b (length room) ≡ Refused number place =
-      convert-own b (length room) ∙ andThen-refused (ownFault b) _ number place (sym (m .fault) ∙ e) in
+      convert-own b (length room) ∙ andThen-refused (ownFault b) _ number place e in
       record { answered = rw fault f; room-holds = rw fault refl }
 
-  module _ (passed : v ≡ Passed) where
-    own : ownFault b ≡ Passed
-    own = sym (m .fault) ∙ passed
-
+  module _ (own : ownFault b ≡ Passed) (bytes : (i : ℕ) → i < length b → byte b i < 256) where
     sound : soundFault b ≡ Passed
     unfolding ownFault
     sound = andThen-left (soundFault b) _ own
@@ -49,34 +41,30 @@ module _ (b room made : List ℕ) (blank : made ≡ zeros 20992) {v : Verdict} {
     unfolding ownFault
     down = andThen-right (soundFault b) _ own
 
-    -- a book that is converted has at least one block, and no more bytes than a book has
-    least : 512 ≤ length b
-    least = form-passed-length b (sound-form b sound)
+    long : length (converted b) ≡ length b
+    long = converted-length b bytes sound down
 
-    pub converted-most : length b ≤ 20992
-    converted-most = omega (arith, form-passed-blocks b (sound-form b sound), form-passed-count b (sound-form b sound))
+    -- 20 is decided by the book's own length
+    room-decides : convertFault b (length room) ≡ unless (leb (length b) (length room)) shortRoom
+    room-decides = convert-own b (length room) ∙ andThen-next (ownFault b) _ own ∙ ap (λ (k : ℕ). unless (leb k (length room)) shortRoom) long
 
-    -- the other book is put into the room, where it fits
-    pub converted-put : ((i : ℕ) → i < length b → byte b i < 256) → (s : List ℕ) {r : OzpText} {room′ : List ℕ}
-        → s ≡ take (length b) made′ → Told s room r room′ → Converted b room r room′
-    converted-put bytes s {r} {room′} cut t =
-        let whole : made′ ≡ otherMade (contentsOf b) (zeros 20992) =
-        m .made-holds
-        ∙ ap (λ (w : Verdict). bufferBy w made (otherMade (contentsOf b) made)) passed
-        ∙ ap (otherMade (contentsOf b)) blank in
-        let same : s ≡ converted b = cut ∙ ap (take (length b)) whole ∙ other-made b bytes sound down in
-        let long : length s ≡ length b = ap length same ∙ converted-length b bytes sound down in
-        let text : textOf s ≡ textGiven (length (converted b)) =
-        sym (given-some s (λ none. omega (arith, long, none, least))) ∙ ap (λ (l : List ℕ). textGiven (length l)) same in
-        let fault : convertFault b (length room) ≡ unless (leb (length (converted b)) (length room)) shortRoom =
-        convert-own b (length room) ∙ andThen-next (ownFault b) _ own in
+    -- the room is too short
+    pub converted-short : {r : OzpText} → length room < length b → r ≡ textRefused 20 0 → Converted b room r room
+    converted-short l f =
+        let fault : convertFault b (length room) ≡ Refused 20 0 = room-decides ∙ unless-false _ shortRoom (lt-leb (length b) (length room) l) in
+        record { answered = rw fault f; room-holds = rw fault refl }
+
+    -- the other book is made in the room
+    pub converted-made : {r : OzpText} {blank room′ : List ℕ} → length b ≤ length room → blank ≡ blanked (length b) room → room′ ≡ otherMade (contentsOf b) blank
+        → r ≡ textGiven (length b) → Converted b room r room′
+    converted-made l e m f =
+        let fault : convertFault b (length room) ≡ Passed = room-decides ∙ unless-true _ shortRoom (le-leb (length b) (length room) l) in
         record {
-          answered =
-              t .answered
-              ∙ ap₂ (λ (l : List ℕ) (x : OzpText). textBy (unless (leb (length l) (length room)) shortRoom) x) same text
-              ∙ ap (λ (w : Verdict). textBy w (textGiven (length (converted b)))) (sym fault);
-          room-holds =
-              t .room-holds
-              ∙ ap (λ (l : List ℕ). bufferBy (unless (leb (length l) (length room)) shortRoom) room (l ++ drop (length l) room)) same
-              ∙ ap (λ (w : Verdict). bufferBy w room (converted b ++ drop (length (converted b)) room)) (sym fault);
+          answered = rw fault (f ∙ ap textGiven (sym long));
+          room-holds = rw fault (m ∙ ap (otherMade (contentsOf b)) e ∙ other-made b bytes sound down room);
         }
+
+-- a book that is not refused is sound
+pub own-sound : (b : List ℕ) → ownFault b ≡ Passed → soundFault b ≡ Passed
+unfolding ownFault
+own-sound b own = andThen-left (soundFault b) _ own

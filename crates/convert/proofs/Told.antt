@@ -1,8 +1,8 @@
--- What converting answers and leaves, told from what its steps found and made.
+-- What converting finds and makes, told from its steps.
 --
--- In order: the refusals before 20; 11 as the code reads the rows; a book that is refused; the book that was made.
+-- In order: the refusals before 20; 11 as the code reads the rows; the book that was made; a book that is refused.
 -- Assumes nothing.
-use mathlib.Core.Path.{_≡_, refl, sym, ap, ap₂, _∙_}
+use mathlib.Core.Path.{_≡_, refl, sym, ap₂, _∙_}
 use mathlib.Core.Bool.{cond}
 use mathlib.Core.List.{List}
 use Prim.Native.Nat.{ℕ}
@@ -20,7 +20,7 @@ use Rattle.book.specs.Faults.{soundFault}
 use Rattle.places.specs.inner.Rows.{putRows}
 use Rattle.making.specs.inner.Made.{bookMade}
 use Rattle.convert.specs.Convert.{otherEdition, stepsFault, downFault, converted, convertFault}
-use Rattle.convert.specs.inner.Converts.{ownFault, otherMade, Converts}
+use Rattle.convert.specs.inner.Converts.{ownFault, otherMade}
 
 -- the first of three tests, by two and the third
 then-three : (u v w : Verdict) → andThen u (andThen v w) ≡ andThen (andThen u v) w
@@ -39,35 +39,19 @@ pub down-own : (b : List ℕ) (edition n : ℕ) → edition ≡ editionOf b → 
 unfolding downFault contentsOf
 down-own b edition n e f = ap₂ (λ (k m : ℕ). cond (eqb k 1) Passed (stepsFault (rowOffers b k 1 m))) e f
 
-made-own : (b made : List ℕ) (edition n other : ℕ) (p : Parameters) {put : List ℕ}
+-- the book that is made of what the book says
+pub made-own : (b room : List ℕ) (edition n other : ℕ) (p : Parameters) {put room′ : List ℕ}
     → edition ≡ editionOf b → n ≡ offerCount b → other ≡ otherEdition edition → p ≡ contentsOf b .parameters
-    → put ≡ putRows made other 0 (rowOffers b edition 1 n)
-    → bookMade other p n put ≡ otherMade (contentsOf b) made
+    → put ≡ putRows room other 0 (rowOffers b edition 1 n) → room′ ≡ bookMade other p n put
+    → room′ ≡ otherMade (contentsOf b) room
 unfolding otherMade contentsOf
-made-own b made edition n other p e f o q r = rw (r, o, q, e, f, ← contents-count b) refl
+made-own b room edition n other p e f o q r m = m ∙ rw (r, o, q, e, f, ← contents-count b) refl
 
-module _ (b made : List ℕ) where
-  -- the book is not sound
-  pub told-unsound : (number place : ℕ) → soundFault b ≡ Refused number place → Converts b made (Refused number place) made
-  unfolding ownFault
-  told-unsound number place e =
-      record { fault = sym (andThen-refused (soundFault b) _ number place e); made-holds = refl }
+-- the book is not sound, or 11 decides
+pub own-unsound : (b : List ℕ) (number place : ℕ) → soundFault b ≡ Refused number place → Refused number place ≡ ownFault b
+unfolding ownFault
+own-unsound b number place e = sym (andThen-refused (soundFault b) _ number place e)
 
-  module _ (sound : soundFault b ≡ Passed) where
-    -- 11 refuses it
-    pub told-down : (number place : ℕ) → downFault (contentsOf b) ≡ Refused number place → Converts b made (Refused number place) made
-    unfolding ownFault
-    told-down number place e =
-        record { fault = sym (andThen-next (soundFault b) _ sound ∙ e); made-holds = refl }
-
-    -- it was made of what the book says
-    pub told-made : downFault (contentsOf b) ≡ Passed → (edition n other : ℕ) (p : Parameters) {put made′ : List ℕ}
-        → edition ≡ editionOf b → n ≡ offerCount b → other ≡ otherEdition edition → p ≡ contentsOf b .parameters
-        → put ≡ putRows made other 0 (rowOffers b edition 1 n) → made′ ≡ bookMade other p n put
-        → Converts b made Passed made′
-    unfolding ownFault
-    told-made down edition n other p {put} {made′} e f o q r m =
-        record {
-          fault = sym (andThen-next (soundFault b) _ sound ∙ down);
-          made-holds = m ∙ made-own b made edition n other p e f o q r;
-        }
+pub own-down : (b : List ℕ) {v : Verdict} → soundFault b ≡ Passed → v ≡ downFault (contentsOf b) → v ≡ ownFault b
+unfolding ownFault
+own-down b sound e = e ∙ sym (andThen-next (soundFault b) _ sound)

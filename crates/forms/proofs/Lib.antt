@@ -4,5 +4,6 @@ pub mod Separated
 pub mod Numbers
 pub mod Fillings
 pub mod Shows
+pub mod Putting
 pub mod Examples
 pub mod Decided

@@ -1,6 +1,7 @@
--- Parts of a page: one form, no part, one part, parts behind others; and that a page touches nothing but its own text.
+-- Parts of a page: one form, no part, one part, parts behind others, the same parts by another name; and that a page touches nothing
+-- but its own text.
 -- Assumes nothing.
-use mathlib.Core.Path.{refl}
+use mathlib.Core.Path.{_≡_, refl}
 use mathlib.Core.List.{List, [], _∷_, _++_}
 use Prim.Native.Nat.{ℕ, _≤_}
 use native.Mathlib.Omega.{arith}
@@ -36,6 +37,11 @@ unfolding Shows
 shows-then room at [] qs mid place after end s t = rw (← s .0, ← s .1) t
 shows-then room at (numbers ∷ ps) qs mid place after end s t =
     (s .0, s .1, s .2, shows-then (s .0) (s .1) ps qs mid place after end (s .3) t)
+
+-- the same parts by another name
+pub shows-as : (room : List ℕ) (at : ℕ) {ps qs : List (List ℕ)} (after : List ℕ) (end : ℕ) → ps ≡ qs → Shows room at ps after end
+    → Shows room at qs after end
+shows-as room at after end e s = rw (← e) s
 
 -- a page is one text, put where its first part begins
 pub shows-put : (room : List ℕ) (at : ℕ) (parts : List (List ℕ)) (after : List ℕ) (end : ℕ) → length room ≤ 18446744073709551615

@@ -1,6 +1,11 @@
-pub mod Finishing
+pub mod Drafts
+pub mod Testing
+pub mod Placing
+pub mod Rooms
+pub mod Begins
+pub mod Tables
+pub mod InRoom
 pub mod Writes
-pub mod Placed
 pub mod Written
 pub mod Copied
 pub mod Decided

@@ -1,51 +1,65 @@
-// A book of either edition written from plain structs into room that a caller lends. The rows stand in their places of a book of
-// zeros by then, each put there by one call.
+// A book of either edition written from plain structs into room that a caller lends. The rows are tested one by one; where nothing
+// refuses them the room is blanked, each row is put into its place of it, and the book is made around them.
+pub mod tested;
+
+use crate::tested::Draft;
+use crate::tested::drafted;
+use making::blank;
+use making::bytes_for;
 use plain::given::offer_in;
 use plain::given::parameters_in;
 use plain::structs::OzpParameters;
 use plain::structs::OzpRow;
 use plain::structs::OzpText;
 use values::Verdict;
-use words::put_text;
+use words::given;
 use words::refused;
-use writer::bytes_for;
-use writer::make_book;
 ghost use mathlib.Core.Path.{_≡_};
-ghost use Prim.Native.Nat.{_<_, min};
+ghost use Prim.Native.Nat.{_+_, _*_, _/_, _≤_, _<_};
 ghost use lib.ListN.{length};
-ghost use Rattle.plain.specs.Given.{parametersIn, offerIn};
+ghost use Rattle.values.specs.declared.Verdict.the-variants.{Passed};
+ghost use Rattle.making.specs.inner.Made.{bytesFor};
 ghost use Rattle.places.specs.inner.Rows.{putRow};
-ghost use Rattle.lent.specs.inner.Finished.{Finished};
+ghost use Rattle.plain.specs.Given.{parametersIn, offerIn};
+ghost use Rattle.lent.specs.inner.Rooms.{Opened, Closed};
 
-// How many of so many rows are put into their places: a book has 600.
-pub fn rows_kept(rows: usize) -> usize
-    ensures { λ r. ⌜ r ≡ min rows 600 ⌝ }
+// The last refusal of a book whose rows are tested: 20. Where nothing refuses it the room is blanked, as far as the book goes, and
+// the rows are to be put.
+pub fn open_room(d: Draft, room: &mut [u8]) -> Draft
+    requires { ⌜ d .rows ≤ 600 ⌝ }
+    ensures { λ r. ⌜ Opened d (now (room .entry)) r (now (room .exit)) ⌝ }
 {
-    if rows < 600 { rows } else { 600 }
+    let before = d.before;
+    let fault = d.fault;
+    if let Verdict::Refused(number, place) = fault {
+        return drafted(Verdict::Refused(number, place), d.rows, before);
+    }
+    let bytes = bytes_for(d.rows);
+    if room.len() < bytes {
+        return drafted(Verdict::Refused(20, 0), d.rows, before);
+    }
+    blank(room, bytes);
+    drafted(Verdict::Passed, d.rows, before)
 }
 
-// Puts a row into its place of a book of this edition.
-pub fn put_row(book: &mut [u8], edition: u32, i: usize, row: OzpRow)
-    requires { ⌜ (length (now book) ≡ 20992) × (i < 600) ⌝ }
-    ensures { λ _. ⌜ now (book .exit) ≡ putRow (now (book .entry)) edition i (offerIn row) ⌝ }
+// Puts a row into its place of the room.
+pub fn put_row(room: &mut [u8], edition: u32, i: usize, row: OzpRow)
+    requires { ⌜ ((1 + i / 15) * 512 + 512 ≤ length (now room)) × (i < 600) ⌝ }
+    ensures { λ _. ⌜ now (room .exit) ≡ putRow (now (room .entry)) edition i (offerIn row) ⌝ }
 {
-    places::place::put_row(book, edition, i, offer_in(row));
+    places::place::put_row(room, edition, i, offer_in(row));
 }
 
-// Makes the book of this edition, these parameters and so many rows, and copies it into the room, where nothing refuses it.
-pub fn put_book(
-    edition: u32,
-    parameters: OzpParameters,
-    rows: usize,
-    book: &mut [u8],
-    room: &mut [u8],
-) -> OzpText
-    requires { ⌜ length (now book) ≡ 20992 ⌝ }
-    ensures { λ r. ⌜ Finished edition (parametersIn parameters) rows (now (book .entry)) (now (room .entry)) r (now (book .exit)) (now (room .exit)) ⌝ }
+// Makes the book around the rows that stand in the room, where nothing refuses it, and answers how many bytes it has.
+pub fn close_room(d: Draft, edition: u32, parameters: OzpParameters, room: &mut [u8]) -> OzpText
+    requires { ⌜ (d .rows ≤ 600) × (d .fault ≡ Passed → bytesFor (d .rows) ≤ length (now room)) ⌝ }
+    ensures { λ r. ⌜ Closed edition (parametersIn parameters) d (now (room .entry)) r (now (room .exit)) ⌝ }
 {
-    let p = parameters_in(parameters);
-    if let Verdict::Refused(number, place) = make_book(edition, p, rows, book) {
+    let fault = d.fault;
+    if let Verdict::Refused(number, place) = fault {
         return refused(number, place);
     }
-    put_text(room, &book[0..bytes_for(rows)])
+    let rows = d.rows;
+    making::put_book(room, edition, parameters_in(parameters), rows);
+    given(bytes_for(rows) as u64)
 }

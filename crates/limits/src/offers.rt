@@ -61,13 +61,16 @@ pub fn offer_fault(needed: bool, edition: u32, o: Offer, row: u32) -> Verdict
     Verdict::Passed
 }
 
-// 6, where prices are needed, 7 and 10 of a row past step 1, which follows the row before it or does not.
+// 6, where prices are needed, 7 and 10 of a row past step 1, which follows the row before it or does not. The offer is tested in either
+// case: a row that follows then leaves at the first test that fails, as a row of step 1 does.
 pub fn past_fault(needed: bool, edition: u32, o: Offer, follows: bool, row: u32) -> Verdict
     ensures { λ r. ⌜ r ≡ pastFault needed edition o follows row ⌝ }
 {
-    let fault = offer_fault(needed, edition, o, row);
     if follows {
-        return fault;
+        return offer_fault(needed, edition, o, row);
     }
-    and_then(fault, Verdict::Refused(10, row))
+    and_then(
+        offer_fault(needed, edition, o, row),
+        Verdict::Refused(10, row),
+    )
 }

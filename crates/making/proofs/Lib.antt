@@ -1,2 +1,3 @@
 pub mod Fields
+pub mod Blanks
 pub mod Decided

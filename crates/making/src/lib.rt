@@ -1,4 +1,5 @@
-// The blocks of a book in which the rows stand: block 0, what opens each block of rows, and both sums of each block.
+// A book made in room that is lent: its bytes blanked first; then, around rows that were put into their places, block 0, what opens
+// each block of rows, and both sums of each block.
 use block::SIZE;
 use block::check::check_sums;
 use layout::OFRS;
@@ -16,7 +17,25 @@ ghost use lib.ListN.{length};
 ghost use Rattle.sections.specs.Section.{blocksFor};
 ghost use Rattle.encoding.specs.Encode.{headMarks};
 ghost use Rattle.places.specs.inner.Put.{put};
-ghost use Rattle.making.specs.inner.Made.{fourValues, opening, sealedAt, blockMade, blocksMade, bookMade};
+ghost use Rattle.making.specs.inner.Made.{bytesFor, blanked, fourValues, opening, sealedAt, blockMade, blocksMade, bookMade};
+
+// How many bytes the book of so many rows has.
+pub fn bytes_for(rows: usize) -> usize
+    requires { ⌜ rows ≤ 600 ⌝ }
+    ensures { λ r. ⌜ (r ≡ bytesFor rows) × (r ≤ 20992) ⌝ }
+{
+    SIZE * (1 + blocks_for(rows))
+}
+
+// Zeros in the first n bytes.
+pub fn blank(b: &mut [u8], n: usize)
+    requires { ⌜ n ≤ length (now b) ⌝ }
+    ensures { λ _. ⌜ now (b .exit) ≡ blanked n (now (b .entry)) ⌝ }
+{
+    for i in 0..n {
+        b[i] = 0;
+    }
+}
 
 // Both sums in the last four bytes of the block that starts at a place.
 fn seal(b: &mut [u8], at: usize)
@@ -88,7 +107,7 @@ fn put_block(b: &mut [u8], k: usize, here: usize)
 
 // The blocks of so many rows.
 fn put_blocks(b: &mut [u8], rows: usize)
-    requires { ⌜ (length (now b) ≡ 20992) × (rows ≤ 600) ⌝ }
+    requires { ⌜ (bytesFor rows ≤ length (now b)) × (rows ≤ 600) ⌝ }
     ensures { λ _. ⌜ now (b .exit) ≡ blocksMade (now (b .entry)) rows (blocksFor rows) ⌝ }
 {
     for j in 0..blocks_for(rows) {
@@ -98,7 +117,7 @@ fn put_blocks(b: &mut [u8], rows: usize)
 
 // The book whose rows stand in their places.
 pub fn put_book(b: &mut [u8], edition: u32, p: Parameters, rows: usize)
-    requires { ⌜ (length (now b) ≡ 20992) × (rows ≤ 600) ⌝ }
+    requires { ⌜ (bytesFor rows ≤ length (now b)) × (rows ≤ 600) ⌝ }
     ensures { λ _. ⌜ now (b .exit) ≡ bookMade edition p rows (now (b .entry)) ⌝ }
 {
     put_opening(b, edition, p, rows as u32);

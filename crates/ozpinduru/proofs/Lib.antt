@@ -1,5 +1,7 @@
 pub mod Exports
-pub mod BookArray
+pub mod KeptArray
+pub mod RowArray
+pub mod Again
 pub mod Decided
 pub mod Comparisons
 pub mod Conversions

@@ -1,10 +1,10 @@
 // The page of a book for a desk, in lent room: what stands behind a text is not touched, and no zero ends it.
-use explaining::explain;
-use explaining::explain_head;
-use explaining::explain_row;
+use page::explain;
+use page::explain_head;
+use page::explain_row;
 use plain::structs::OzpText;
 ghost use Rattle.page.specs.Page.{headParts, pageParts, rowPageParts};
-ghost use Rattle.explaining.specs.Explained.{Explained};
+ghost use Rattle.page.specs.Explained.{Explained};
 
 // A book's page: how it clears and why, or why it is refused and what it lacks; and its rows.
 #[no_mangle]

@@ -1,5 +1,2 @@
-pub mod Facts
-pub mod Levels
-pub mod Division
-pub mod Accepted
 pub mod Page
+pub mod Explained

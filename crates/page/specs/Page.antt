@@ -7,18 +7,18 @@ use Rattle.layout.specs.Form.{formFault}
 use Rattle.call.specs.Answer.{answerOf}
 use Rattle.call.specs.declared.Answer.{Answer}
 use Rattle.call.specs.declared.Answer.the-variants.{Cleared, Refused}
-use Rattle.workings.specs.declared.read.Head.{Head}
-use Rattle.workings.specs.declared.read.Head.the-variants.{Stated, Unread}
+use Rattle.readout.specs.declared.Head.{Head}
+use Rattle.readout.specs.declared.Head.the-variants.{Stated, Unread}
+use Rattle.readout.specs.Facts.{headIn, rowIn}
 use Rattle.lines.specs.Stated.{statedNumbers}
+use Rattle.workings.specs.Works.{worked}
 use Rattle.workings.specs.declared.works.WorksAnswer.{WorksAnswer}
 use Rattle.workings.specs.declared.works.WorksAnswer.the-variants.{Worked, Refused as WorksAnswer·Refused}
-use Rattle.refusing.specs.Facts.{headIn, rowIn}
 use Rattle.refusing.specs.Refused.{unreadParts, refusedParts}
 use Rattle.refusing.specs.Stated.{statedRow}
-use Rattle.rowpages.specs.Facts.{worked}
 use Rattle.rowpages.specs.Row.{rowParts}
 use Rattle.rowpages.specs.Rows.{rowsParts}
-use Rattle.page.specs.Accepted.{acceptedParts}
+use Rattle.headpage.specs.Accepted.{acceptedParts}
 
 -- what a book that can be read answers
 abbrev pub answeredParts : List ℕ → ℕ → Parameters → ℕ → Answer → List (List ℕ)

@@ -2,25 +2,25 @@
 // that it lacks.
 //
 // Each function puts its lines over the room from a place on and answers the place behind them. What does not fit is not put, and
-// the place goes on all the same, so that it says how long the text is. The lines and their wording are those of crate `lines`; which
-// numbers a page shows, and in which order, is what is promised here.
-mod accepted;
-mod division;
-mod facts;
+// the place goes on all the same, so that it says how long the text is. The lines and their wording are those of crates `lines`,
+// `rowlines` and `faultlines`; which numbers a page shows, and in which order, is what is promised here.
 mod row;
-mod rungs;
+mod texts;
 
-use accepted::put_accepted;
 use call::Answer;
 use call::quote;
+use headpage::put_accepted;
 use lines::stated::put_stated;
+use readout::Head;
+use readout::head_of;
 use refusing::put_refused;
 use refusing::put_unread;
 pub use row::put_row_page;
 use rowpages::put_rows;
+pub use texts::explain;
+pub use texts::explain_head;
+pub use texts::explain_row;
 use values::head::Parameters;
-use workings::read::Head;
-use workings::read::head_of;
 ghost use Rattle.call.specs.Answer.{answerOf};
 ghost use Rattle.forms.specs.Shown.{Shows};
 ghost use Rattle.page.specs.Page.{answeredParts, headParts, pageParts};

@@ -1,9 +1,9 @@
 // The page of one row: in full where the book is accepted, and else the offer as the book states it, with what is wrong with its values.
-use crate::facts::NO_ROW;
+use readout::Head;
+use readout::head_of;
 use refusing::put_stated_row;
 use rowpages::put_row_of;
-use workings::read::Head;
-use workings::read::head_of;
+use workings::NO_ROW;
 use workings::works::WorksAnswer;
 use workings::works::workings;
 ghost use Rattle.forms.specs.Shown.{Shows};

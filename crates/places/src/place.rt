@@ -65,7 +65,7 @@ fn put_place(b: &mut [u8], at: usize, edition: u32, o: Offer)
 // An offer as row i of a book of this edition. One with a step that the edition does not have leaves the place as it was. A block
 // is one place longer than those that it holds.
 pub fn put_row(book: &mut [u8], edition: u32, i: usize, o: Offer)
-    requires { ⌜ (length (now book) ≡ 20992) × (i < 600) ⌝ }
+    requires { ⌜ ((1 + i / 15) * 512 + 512 ≤ length (now book)) × (i < 600) ⌝ }
     ensures { λ _. ⌜ now (book .exit) ≡ putRow (now (book .entry)) edition i o ⌝ }
 {
     if !step_within(edition, o.step) {

@@ -18,9 +18,9 @@ use Rattle.reading.proofs.read_rows.Reads as read-rows
 use Rattle.reading.proofs.rows_fault.Reads as rows-fault
 
 -- what reading rows yields is one verdict and one content of the columns
-rows-alone : (needed : Bool) (edition : ℕ) (offers : List Offer) (r s : Verdict) (before after other : Columns)
-    → RowsRead needed edition offers r before after → RowsRead needed edition offers s before other → (r ≡ s) × (after ≡ other)
-rows-alone needed edition offers r s before after other e f = (
+rows-alone : (edition : ℕ) (offers : List Offer) (r s : Verdict) (before after other : Columns)
+    → RowsRead edition offers r before after → RowsRead edition offers s before other → (r ≡ s) × (after ≡ other)
+rows-alone edition offers r s before after other e f = (
   e .found ∙ sym (f .found),
   λ i.
       record {
@@ -34,17 +34,17 @@ rows-alone needed edition offers r s before after other e f = (
 )
 
 -- the first fault of rows and their columns, by the contract of `read_rows`, refused or not
-pub read-rows-decided : (κs : Lfts 7) (book : RefT (List ℕ)) (edition first n : ℕ) (needed : Bool)
+pub read-rows-decided : (κs : Lfts 7) (book : RefT (List ℕ)) (edition first n : ℕ)
     (p q l m t u p₁ q₁ l₁ m₁ t₁ u₁ p₂ q₂ l₂ m₂ t₂ u₂ : RefT (List ℕ)) (r s : Verdict)
-    → read-rows.Post κs (book, (edition, (first, (n, (needed, (p, (q, (l, (m, (t, (u, tt))))))))))) r
-    (book, (edition, (first, (n, (needed, (p₁, (q₁, (l₁, (m₁, (t₁, (u₁, tt)))))))))))
-    → read-rows.Post κs (book, (edition, (first, (n, (needed, (p, (q, (l, (m, (t, (u, tt))))))))))) s
-    (book, (edition, (first, (n, (needed, (p₂, (q₂, (l₂, (m₂, (t₂, (u₂, tt)))))))))))
+    → read-rows.Post κs (book, (edition, (first, (n, (p, (q, (l, (m, (t, (u, tt)))))))))) r
+    (book, (edition, (first, (n, (p₁, (q₁, (l₁, (m₁, (t₁, (u₁, tt))))))))))
+    → read-rows.Post κs (book, (edition, (first, (n, (p, (q, (l, (m, (t, (u, tt)))))))))) s
+    (book, (edition, (first, (n, (p₂, (q₂, (l₂, (m₂, (t₂, (u₂, tt))))))))))
     → (r ≡ s)
     × (columnsOf (now p₁) (now q₁) (now l₁) (now m₁) (now t₁) (now u₁)
     ≡ columnsOf (now p₂) (now q₂) (now l₂) (now m₂) (now t₂) (now u₂))
-read-rows-decided κs book edition first n needed p q l m t u p₁ q₁ l₁ m₁ t₁ u₁ p₂ q₂ l₂ m₂ t₂ u₂ r s e f =
-    rows-alone needed edition _ r s _ _ _ e f
+read-rows-decided κs book edition first n p q l m t u p₁ q₁ l₁ m₁ t₁ u₁ p₂ q₂ l₂ m₂ t₂ u₂ r s e f =
+    rows-alone edition _ r s _ _ _ e f
 
 -- the first fault of a book's rows alone, by the contract of `rows_fault`
 pub rows-fault-decided : (κs : Lfts 1) (book other : RefT (List ℕ)) (edition n : ℕ) (needed : Bool) (r s : Verdict)

@@ -1,3 +1,6 @@
 pub mod Tests
-pub mod Values
+pub mod Puts
+pub mod Holding
+pub mod HeldRows
+pub mod Found
 pub mod Decided

@@ -41,7 +41,7 @@ module _ (b : List ℕ) (edition first n : ℕ) (row : ℕ) {o : Offer} (l : row
       e ∙ ap₂ (λ (before o : Offer). rowFault needed edition before o row) (sym (offerAt-rowOffers b edition first n (row - 1) (omega arith))) own
 
 -- the rows before the refused one are among those tested
-before-tested : (fault : Verdict) (n : ℕ) → rowsBefore fault n ≤ rowsTested fault n
+pub before-tested : (fault : Verdict) (n : ℕ) → rowsBefore fault n ≤ rowsTested fault n
 before-tested Passed n = omega arith
 before-tested (Refused number row) n = omega arith
 

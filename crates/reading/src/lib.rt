@@ -1,77 +1,28 @@
 // The rows of a section: read once into columns, with their values' faults and a repeated resource among those before.
+mod lanes;
+mod put;
 mod tested;
 
-use crate::tested::past_tested;
+use crate::lanes::columns_hold;
+use crate::put::put_rows;
 use crate::tested::values_tested;
-use layout::reader::row_bytes;
-use limits::offers::offer_fault;
 use limits::repeated::with_repeats;
 use values::Verdict;
-use values::least_of;
-use values::number_held;
-use values::place::offer_in;
 ghost use mathlib.Core.Path.{_≡_};
 ghost use Rattle.columns.specs.inner.Columns.{columnsOf, Room};
 ghost use Rattle.limits.specs.Offers.{rowsFault};
 ghost use Rattle.values.specs.Contents.{offerAt};
 ghost use Rattle.layout.specs.Read.{rowOffers};
 ghost use Rattle.layout.specs.inner.Read.{Inside};
-ghost use Rattle.reading.specs.inner.Rows.{ValuesRead, RowsRead};
+ghost use Rattle.reading.specs.inner.Rows.{RowsRead};
 
-// The first fault by 6, 7 or 10 among n rows that stand from the block `first` on, with the columns of the rows up to it.
-fn values_fault(
-    book: &[u8],
-    edition: u32,
-    first: usize,
-    n: u32,
-    needed: bool,
-    prices: &mut [u32],
-    quantities: &mut [u32],
-    leasts: &mut [u32],
-    resources: &mut [u32],
-    stamps: &mut [u64],
-    steps: &mut [u32],
-) -> Verdict
-    requires { ⌜ Inside (now book) first n × Room n (columnsOf (now prices) (now quantities) (now leasts) (now resources) (now stamps) (now steps)) ⌝ }
-    ensures { λ r. ⌜ ValuesRead needed edition (rowOffers (now (book .entry)) edition first n) n r
-        (columnsOf (now (prices .entry)) (now (quantities .entry)) (now (leasts .entry)) (now (resources .entry)) (now (stamps .entry)) (now (steps .entry)))
-        (columnsOf (now (prices .exit)) (now (quantities .exit)) (now (leasts .exit)) (now (resources .exit)) (now (stamps .exit)) (now (steps .exit))) ⌝ }
-{
-    let mut before: usize = 0;
-    let mut row: u32 = 0;
-    while row < n {
-        let at = row as usize;
-        let o = offer_in(row_bytes(book, first, at), edition);
-        let price = o.price;
-        let block = o.block;
-        prices[at] = number_held(price);
-        quantities[at] = o.quantity;
-        leasts[at] = least_of(block);
-        resources[at] = o.resource;
-        stamps[at] = o.stamp;
-        steps[at] = o.step;
-        let fault = if o.step == 1 {
-            offer_fault(needed, edition, o, row)
-        } else {
-            past_tested(book, edition, first, needed, o, before, row)
-        };
-        if let Verdict::Refused(number, place) = fault {
-            return Verdict::Refused(number, place);
-        }
-        before = at;
-        row += 1;
-    }
-    Verdict::Passed
-}
-
-// The first fault of n rows that stand from the block `first` on, each tested for 6, where prices are needed, for 7, for 8
-// and for 10. The rows stand in the columns: all where there is no fault by 6, 7 or 10, and else those up to the first that has one.
+// The first fault of n rows that stand from the block `first` on, each tested for 6, 7, 8 and 10. All of them are put into the columns,
+// where they are tested; only where one fails are they gone through for the first fault.
 pub fn read_rows(
     book: &[u8],
     edition: u32,
     first: usize,
     n: u32,
-    needed: bool,
     prices: &mut [u32],
     quantities: &mut [u32],
     leasts: &mut [u32],
@@ -80,16 +31,15 @@ pub fn read_rows(
     steps: &mut [u32],
 ) -> Verdict
     requires { ⌜ Inside (now book) first n × Room n (columnsOf (now prices) (now quantities) (now leasts) (now resources) (now stamps) (now steps)) ⌝ }
-    ensures { λ r. ⌜ RowsRead needed edition (rowOffers (now (book .entry)) edition first n) r
+    ensures { λ r. ⌜ RowsRead edition (rowOffers (now (book .entry)) edition first n) r
         (columnsOf (now (prices .entry)) (now (quantities .entry)) (now (leasts .entry)) (now (resources .entry)) (now (stamps .entry)) (now (steps .entry)))
         (columnsOf (now (prices .exit)) (now (quantities .exit)) (now (leasts .exit)) (now (resources .exit)) (now (stamps .exit)) (now (steps .exit))) ⌝ }
 {
-    let found = values_fault(
+    let told = put_rows(
         book,
         edition,
         first,
         n,
-        needed,
         prices,
         quantities,
         leasts,
@@ -97,6 +47,20 @@ pub fn read_rows(
         stamps,
         steps,
     );
+    let held = columns_hold(
+        edition,
+        prices,
+        quantities,
+        leasts,
+        resources,
+        steps,
+        n as usize,
+    );
+    let found = if told & held {
+        Verdict::Passed
+    } else {
+        values_tested(book, edition, first, n, true, resources, steps)
+    };
     with_repeats(found, resources, steps, n)
 }
 

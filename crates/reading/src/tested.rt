@@ -1,6 +1,4 @@
-// The rows of a section tested for 6, 7 and 10, with what the search for a repeated resource needs of them.
-//
-// This loop and that of the columns are two, so that each has one caller and is inlined there.
+// The rows of a section gone through for their first fault by 6, 7 or 10, with what the search for a repeated resource needs of them.
 use layout::reader::row_bytes;
 use limits::offers::offer_fault;
 use limits::offers::past_fault;
@@ -18,7 +16,7 @@ ghost use Rattle.reading.specs.inner.Rows.{RowAt, ValuesTested};
 
 // 6, where prices are needed, 7 and 10 of a row past step 1, whose own offer is at hand: the row before it is read, for which row 0
 // stands itself, since it does not follow itself.
-pub(crate) fn past_tested(
+fn past_tested(
     book: &[u8],
     edition: u32,
     first: usize,

@@ -6,11 +6,11 @@ use Rattle.values.specs.declared.Value.{Value}
 use Rattle.values.specs.declared.Value.the-variants.{Given, Missing}
 use Rattle.values.specs.declared.head.Parameters.{Parameters}
 use Rattle.values.specs.declared.place.Offer.{Offer}
-use Rattle.workings.specs.declared.read.RowOffer.{RowOffer}
-use Rattle.workings.specs.declared.read.RowOffer.the-variants.{Offered, Unread}
+use Rattle.readout.specs.declared.RowOffer.{RowOffer}
+use Rattle.readout.specs.declared.RowOffer.the-variants.{Offered, Unread}
+use Rattle.readout.specs.Facts.{rowIn, rowsIn}
 use Rattle.faultlines.specs.Missing.{missingParametersNumbers, missingPriceNumbers}
-use Rattle.refusing.specs.Parts.{partsOf}
-use Rattle.refusing.specs.Facts.{rowIn, rowsIn}
+use Rattle.forms.specs.Parts.{partsOf}
 
 -- an offer whose price is missing
 abbrev pub unpriced : (edition row : ℕ) → Offer → Value → List (List ℕ)

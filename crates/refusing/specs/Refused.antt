@@ -11,12 +11,12 @@ use Rattle.values.specs.declared.head.Parameters.{Parameters}
 use Rattle.values.specs.declared.place.Offer.{Offer}
 use Rattle.causes.specs.Cause.{causeOf}
 use Rattle.causes.specs.Rules.{stepCause}
-use Rattle.workings.specs.declared.read.RowOffer.{RowOffer}
-use Rattle.workings.specs.declared.read.RowOffer.the-variants.{Offered, Unread}
+use Rattle.readout.specs.declared.RowOffer.{RowOffer}
+use Rattle.readout.specs.declared.RowOffer.the-variants.{Offered, Unread}
+use Rattle.readout.specs.Facts.{rowIn, earlierIn}
 use Rattle.faultlines.specs.Refused.{lengthNumbers, checkNumbers, layoutNumbers, parameterNumbers, refusedRowNumbers}
 use Rattle.faultlines.specs.Wrong.{valuesNumbers, rulesNumbers}
 use Rattle.rowlines.specs.Rows.{offerNumbers}
-use Rattle.refusing.specs.Facts.{rowIn, earlierIn}
 use Rattle.refusing.specs.Missing.{missingParts}
 
 -- 3: the test that fails first

@@ -2,8 +2,8 @@
 -- Assumes nothing.
 use Prim.Native.Nat.{ℕ}
 use mathlib.Core.List.{List, [], _∷_}
-use Rattle.workings.specs.declared.read.RowOffer.{RowOffer}
-use Rattle.workings.specs.declared.read.RowOffer.the-variants.{Offered, Unread}
+use Rattle.readout.specs.declared.RowOffer.{RowOffer}
+use Rattle.readout.specs.declared.RowOffer.the-variants.{Offered, Unread}
 use Rattle.rowlines.specs.Rows.{offerNumbers}
 use Rattle.faultlines.specs.Wrong.{valuesNumbers}
 

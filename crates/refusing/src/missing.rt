@@ -1,13 +1,13 @@
 // All that a book lacks, for one who fills it in.
 use faultlines::missing::put_missing_parameters;
 use faultlines::missing::put_missing_price;
+use readout::RowOffer;
+use readout::offer_of;
+use readout::rows_of;
 use values::Value;
 use values::head::Parameters;
-use workings::read::RowOffer;
-use workings::read::offer_of;
-use workings::read::rows_of;
 ghost use Rattle.forms.specs.Shown.{Shows};
-ghost use Rattle.refusing.specs.Facts.{rowIn};
+ghost use Rattle.readout.specs.Facts.{rowIn};
 ghost use Rattle.refusing.specs.Missing.{unpricedRow, missingParts};
 
 // Puts that a row's price is missing, where it is.

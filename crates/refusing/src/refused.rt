@@ -5,14 +5,14 @@ use faultlines::parameter::put_parameter;
 use faultlines::refused::put_refused_row;
 use faultlines::wrong::put_rules;
 use faultlines::wrong::put_values;
+use readout::RowOffer;
+use readout::earlier_row;
+use readout::offer_of;
 use rowlines::rows::put_offer;
 use values::head::Parameters;
 use values::place::Offer;
-use workings::read::RowOffer;
-use workings::read::earlier_row;
-use workings::read::offer_of;
 ghost use Rattle.forms.specs.Shown.{Shows};
-ghost use Rattle.refusing.specs.Facts.{rowIn};
+ghost use Rattle.readout.specs.Facts.{rowIn};
 ghost use Rattle.refusing.specs.Refused.{stepsParts, againstParts, refusedRow, faultParts, refusedParts};
 
 // 10: puts which rule of steps a row breaks, and the row before it, where there is one.

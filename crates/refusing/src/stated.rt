@@ -1,10 +1,10 @@
 // A row of a book that is refused: the offer as the book states it, and its values beside their ranges.
 use faultlines::wrong::put_values;
+use readout::RowOffer;
+use readout::offer_of;
 use rowlines::rows::put_offer;
-use workings::read::RowOffer;
-use workings::read::offer_of;
 ghost use Rattle.forms.specs.Shown.{Shows};
-ghost use Rattle.refusing.specs.Facts.{rowIn};
+ghost use Rattle.readout.specs.Facts.{rowIn};
 ghost use Rattle.refusing.specs.Stated.{statedRow};
 
 // Puts a row as a book states it, where it is there: its offer, and its values beside their ranges.

@@ -1,14 +1,15 @@
 -- What a table of flags shows of the rows passed, where each resource number has a flag.
 --
--- In order: no row; a flag more; one row more; a row whose flag is not set; of a row's step and two
--- flags that do not all ask for a test, which does not.
+-- In order: no row; a flag more; one row more, with its flag or with the number of the row before it; a row whose flag is not set; of a
+-- row's step and two flags that do not all ask for a test, which does not.
 -- Assumes nothing.
 use mathlib.Core.Path.{_≡_, refl, sym, _∙_}
 use mathlib.Core.Bool.{Bool, true, false, _&&_, true≢false}
 use mathlib.Core.List.{List}
-use Prim.Native.Nat.{ℕ, _+_, _<_}
+use Prim.Native.Nat.{ℕ, _+_, _-_, _<_}
 use native.Mathlib.Numerals.{add-one}
 use native.Mathlib.Nat.{not-suc-le-zero}
+use native.Mathlib.Omega.{arith}
 use lib.ListN.{length, getD, set}
 use lib.Seq.{getD-set-same, getD-set-other}
 use borrow.Author.Tests.{eqb-true, not-false}
@@ -50,6 +51,12 @@ module _ (flagOf resources : ℕ → ℕ) (met : List Bool) where
             (flagged-kept n p fits h .flag)
             (rw (← e) (getD-set-same met p true false fits)));
       }
+
+  -- one row more, whose resource number the row before it has
+  pub flagged-same : (n : ℕ) → 0 < n → resources n ≡ resources (n - 1)
+      → Flagged flagOf resources met n → Flagged flagOf resources met (n + 1)
+  flagged-same n later same h =
+      record { flag = rw add-one (up-to-last _ n (h .flag) (rw same (h .flag (n - 1) (omega arith)))) }
 
   -- a row whose flag is not set: its resource number stands in none of the rows passed
   pub unmet-fresh : (n p : ℕ) → p ≡ flagOf (resources n)

@@ -3,9 +3,9 @@
 // Where one of a number's flags is not set, the number was not met. Where both are, other numbers may have set them: there the
 // earlier rows are looked through.
 ghost use mathlib.Core.Path.{_≡_};
-ghost use mathlib.Core.Bool.{true, not};
-ghost use Prim.Native.Nat.{_≤_, _<_};
-ghost use lib.Dec.{eqb};
+ghost use mathlib.Core.Bool.{true, not, _&&_};
+ghost use Prim.Native.Nat.{_-_, _≤_, _<_};
+ghost use lib.Dec.{eqb, ltb};
 ghost use lib.ListN.{length, getD};
 ghost use Rattle.laws.specs.Sum.{every};
 ghost use Rattle.repeats.specs.inner.Flags.{flagOfSum, flagOfProduct};
@@ -39,10 +39,22 @@ fn flag_of_product(number: u32) -> usize
     (low * high / 128 % 8192) as usize
 }
 
+// Whether a row has the resource number of the row before it. Row 0 has none before it.
+fn as_before(resources: &[u32], row: usize) -> bool
+    requires { ⌜ row < length (now resources) ⌝ }
+    ensures { λ r. ⌜ r ≡ (ltb 0 row && eqb (getD (now (resources .entry)) row 0) (getD (now (resources .entry)) (row - 1) 0)) ⌝ }
+{
+    if row == 0 {
+        return false;
+    }
+    resources[row] == resources[row - 1]
+}
+
 // Fewer rows than this are looked through sooner than a table of flags is cleared.
 const FEW: usize = 40;
 
-// A row before which no row is a repeat: the first that is one, or n. Of few rows it says nothing: 0.
+// A row before which no row is a repeat: the first that is one, or n. Of few rows it says nothing: 0. A row past step 1 whose number
+// the row before it has is no repeat, and its flags are set already.
 pub fn unrepeated_rows(resources: &[u32], steps: &[u32], n: usize) -> usize
     requires { ⌜ (n ≤ length (now resources)) × (n ≤ length (now steps)) ⌝ }
     ensures { λ r. ⌜ (r ≤ n)
@@ -54,15 +66,17 @@ pub fn unrepeated_rows(resources: &[u32], steps: &[u32], n: usize) -> usize
     let mut met = [false; 8192];
     for row in 0..n {
         let number = resources[row];
-        let by_sum = flag_of_sum(number);
-        let by_product = flag_of_product(number);
-        if (steps[row] == 1) & met[by_sum] & met[by_product] {
-            if !absent(resources, row, number) {
-                return row;
+        if (steps[row] == 1) | !as_before(resources, row) {
+            let by_sum = flag_of_sum(number);
+            let by_product = flag_of_product(number);
+            if (steps[row] == 1) & met[by_sum] & met[by_product] {
+                if !absent(resources, row, number) {
+                    return row;
+                }
             }
+            met[by_sum] = true;
+            met[by_product] = true;
         }
-        met[by_sum] = true;
-        met[by_product] = true;
     }
     n
 }

@@ -26,16 +26,15 @@ use Rattle.call.specs.declared.Answer.{Answer}
 use Rattle.call.specs.declared.Answer.the-variants.{Cleared as Answer·Cleared, Refused as Answer·Refused}
 use Rattle.call.proofs.Calls.{outcome-answer}
 use Rattle.call.proofs.Outcomes.{cleared-accepted, cleared-clearing, cleared-row, committed-row}
-use Rattle.workings.specs.Works.{workedBy}
+use Rattle.workings.specs.Works.{workedBy, worked}
 use Rattle.workings.specs.declared.works.Works.{Works}
 use Rattle.workings.specs.declared.works.WorksAnswer.{WorksAnswer}
 use Rattle.workings.specs.declared.works.WorksAnswer.the-variants.{Worked}
-use Rattle.refusing.specs.Parts.{partsOf}
-use Rattle.refusing.specs.Facts.{rowIn, rowsIn}
-use Rattle.rowpages.specs.Facts.{worked}
+use Rattle.forms.specs.Parts.{partsOf}
+use Rattle.forms.proofs.Putting.{partsOf-ext}
+use Rattle.readout.specs.Facts.{rowIn, rowsIn}
 use Rattle.rowpages.specs.Table.{lineParts, tableParts}
 use Rattle.rowpages.specs.inner.Table.{lineBy}
-use Rattle.rowpages.proofs.Showing.{partsOf-ext}
 
 worked-passed : (v : Verdict) (w x : Works) → Worked x ≡ workedBy v w → v ≡ Passed
 worked-passed Passed w x e = refl

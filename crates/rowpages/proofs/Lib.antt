@@ -1,2 +1,2 @@
-pub mod Showing
+pub mod Added
 pub mod Accepted

@@ -1,4 +1,3 @@
-pub mod Facts
 pub mod Together
 pub mod Row
 pub mod Table

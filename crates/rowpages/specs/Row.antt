@@ -9,8 +9,8 @@ use Rattle.pricing.specs.declared.ClearingPrice.{ClearingPrice}
 use Rattle.reasons.specs.declared.share.Share.{Share}
 use Rattle.reasons.specs.declared.share.RowShare.{RowShare}
 use Rattle.reasons.specs.declared.share.RowShare.the-variants.{Shares, NoRow}
-use Rattle.workings.specs.declared.read.RowOffer.{RowOffer}
-use Rattle.workings.specs.declared.read.RowOffer.the-variants.{Offered, Unread}
+use Rattle.readout.specs.declared.RowOffer.{RowOffer}
+use Rattle.readout.specs.declared.RowOffer.the-variants.{Offered, Unread}
 use Rattle.workings.specs.declared.row.RowWorks.{RowWorks}
 use Rattle.workings.specs.declared.row.WorkedRow.{WorkedRow}
 use Rattle.workings.specs.declared.row.WorkedRow.the-variants.{Row, NoRow as WorkedRow·NoRow}

@@ -4,15 +4,15 @@ use Prim.Native.Nat.{ℕ}
 use mathlib.Core.Bool.{cond}
 use mathlib.Core.List.{List, [], _∷_, _++_}
 use lib.Dec.{eqb, leb}
-use Rattle.workings.specs.declared.read.Head.{Head}
-use Rattle.workings.specs.declared.read.Head.the-variants.{Stated, Unread}
+use Rattle.readout.specs.declared.Head.{Head}
+use Rattle.readout.specs.declared.Head.the-variants.{Stated, Unread}
+use Rattle.readout.specs.Facts.{rowIn, rowsIn}
 use Rattle.workings.specs.declared.works.WorksAnswer.{WorksAnswer}
 use Rattle.workings.specs.declared.works.WorksAnswer.the-variants.{Worked, Refused}
+use Rattle.workings.specs.Works.{worked}
 use Rattle.rowlines.specs.Rows.{rowsHeadNumbers}
 use Rattle.rowlines.specs.Table.{tableHeadNumbers}
-use Rattle.refusing.specs.Parts.{partsOf}
-use Rattle.refusing.specs.Facts.{rowIn, rowsIn}
-use Rattle.rowpages.specs.Facts.{worked}
+use Rattle.forms.specs.Parts.{partsOf}
 use Rattle.rowpages.specs.Row.{rowParts}
 use Rattle.rowpages.specs.Together.{togetherParts}
 use Rattle.rowpages.specs.Table.{tableParts}

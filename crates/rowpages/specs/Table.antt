@@ -4,11 +4,11 @@ use Prim.Native.Nat.{ℕ}
 use mathlib.Core.List.{List, [], _∷_}
 use Rattle.layout.specs.Read.{contentsOf}
 use Rattle.sale.specs.Auction.{rowCleared, rowCommitted, rowMakeWhole}
-use Rattle.workings.specs.declared.read.RowOffer.{RowOffer}
-use Rattle.workings.specs.declared.read.RowOffer.the-variants.{Offered, Unread}
+use Rattle.readout.specs.declared.RowOffer.{RowOffer}
+use Rattle.readout.specs.declared.RowOffer.the-variants.{Offered, Unread}
+use Rattle.readout.specs.Facts.{rowIn}
 use Rattle.rowlines.specs.Table.{lineNumbers}
-use Rattle.refusing.specs.Parts.{partsOf}
-use Rattle.refusing.specs.Facts.{rowIn}
+use Rattle.forms.specs.Parts.{partsOf}
 
 -- the line of a row that is there, by what it clears, commits and is paid
 abbrev pub lineParts : ℕ → RowOffer → (cleared committed mills amount sum : ℕ) → List (List ℕ)

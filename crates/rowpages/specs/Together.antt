@@ -5,15 +5,15 @@ use mathlib.Core.Bool.{Bool, false, cond, _||_}
 use mathlib.Core.List.{List, [], _∷_}
 use lib.Dec.{ltb}
 use Rattle.laws.specs.Sum.{sumTo}
-use Rattle.workings.specs.declared.read.RowOffer.{RowOffer}
-use Rattle.workings.specs.declared.read.RowOffer.the-variants.{Offered, Unread}
+use Rattle.readout.specs.declared.RowOffer.{RowOffer}
+use Rattle.readout.specs.declared.RowOffer.the-variants.{Offered, Unread}
+use Rattle.readout.specs.Facts.{rowIn}
 use Rattle.workings.specs.declared.row.WorkedRow.{WorkedRow}
 use Rattle.workings.specs.declared.row.WorkedRow.the-variants.{Row, NoRow}
 use Rattle.workings.specs.declared.works.WorksAnswer.{WorksAnswer}
 use Rattle.workings.specs.declared.works.WorksAnswer.the-variants.{Worked, Refused}
+use Rattle.workings.specs.Works.{worked}
 use Rattle.rowlines.specs.Rows.{togetherNumbers}
-use Rattle.refusing.specs.Facts.{rowIn}
-use Rattle.rowpages.specs.Facts.{worked}
 
 -- what a row clears, and what it offers: nothing where it is not there
 abbrev pub clearedBy : WorkedRow → ℕ

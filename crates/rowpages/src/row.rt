@@ -1,6 +1,7 @@
 // A row in full: its offer, its part of its price level, its turn in the contest, and what it clears, commits and is paid.
-use crate::NO_ROW;
 use pricing::ClearingPrice;
+use readout::RowOffer;
+use readout::offer_of;
 use reasons::share::RowShare;
 use reasons::share::Share;
 use rowlines::rows::put_offer;
@@ -8,16 +9,15 @@ use rowlines::rows::put_part;
 use rowlines::rows::put_settled;
 use rowlines::turn::put_turn;
 use values::place::Offer;
-use workings::read::RowOffer;
-use workings::read::offer_of;
+use workings::NO_ROW;
 use workings::row::RowWorks;
 use workings::row::WorkedRow;
 use workings::works::Works;
 use workings::works::WorksAnswer;
 use workings::works::workings;
 ghost use Rattle.forms.specs.Shown.{Shows};
-ghost use Rattle.refusing.specs.Facts.{rowIn};
-ghost use Rattle.rowpages.specs.Facts.{worked};
+ghost use Rattle.readout.specs.Facts.{rowIn};
+ghost use Rattle.workings.specs.Works.{worked};
 ghost use Rattle.rowpages.specs.Row.{turnParts, fullParts, workedParts, rowParts};
 
 // Puts a row's turn in the contest, where its level is divided.

@@ -1,12 +1,12 @@
 // The rows of an accepted book: few in full, many as a table.
-use crate::NO_ROW;
 use crate::few::put_few;
 use crate::table::put_table;
+use readout::Head;
+use readout::head_of;
+use readout::rows_of;
 use rowlines::rows::put_rows_head;
 use rowlines::table::put_table_head;
-use workings::read::Head;
-use workings::read::head_of;
-use workings::read::rows_of;
+use workings::NO_ROW;
 use workings::works::WorksAnswer;
 use workings::works::workings;
 ghost use mathlib.Core.Path.{_≡_};
@@ -14,8 +14,8 @@ ghost use Prim.Native.Nat.{_≤_};
 ghost use Rattle.values.specs.declared.Verdict.the-variants.{Passed};
 ghost use Rattle.book.specs.Faults.{firstFault};
 ghost use Rattle.forms.specs.Shown.{Shows};
-ghost use Rattle.refusing.specs.Facts.{headIn, rowsIn};
-ghost use Rattle.rowpages.specs.Facts.{worked};
+ghost use Rattle.readout.specs.Facts.{headIn, rowsIn};
+ghost use Rattle.workings.specs.Works.{worked};
 ghost use Rattle.rowpages.specs.Rows.{rowsBy, rowsParts};
 
 // The most rows that are shown in full: as many as fill a block.

@@ -2,10 +2,10 @@
 use call::Answer;
 use call::clear;
 use pricing::ClearingPrice;
+use readout::RowOffer;
+use readout::offer_of;
 use rowlines::table::put_line;
 use settle::make_whole;
-use workings::read::RowOffer;
-use workings::read::offer_of;
 ghost use mathlib.Core.Path.{_≡_};
 ghost use Prim.Native.Nat.{_≤_, _-_};
 ghost use lib.ListN.{length};
@@ -14,8 +14,8 @@ ghost use Rattle.auction.specs.Settlement.{mills};
 ghost use Rattle.settle.specs.inner.Read.{quoted};
 ghost use Rattle.book.specs.Faults.{firstFault};
 ghost use Rattle.forms.specs.Shown.{Shows};
-ghost use Rattle.refusing.specs.Parts.{partsOf};
-ghost use Rattle.refusing.specs.Facts.{rowIn, rowsIn};
+ghost use Rattle.forms.specs.Parts.{partsOf};
+ghost use Rattle.readout.specs.Facts.{rowIn, rowsIn};
 ghost use Rattle.rowpages.specs.Table.{lineParts, tableParts};
 ghost use Rattle.rowpages.specs.inner.Table.{lineBy};
 

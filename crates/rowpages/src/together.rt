@@ -1,8 +1,8 @@
 // The steps of a resource, taken together.
-use crate::NO_ROW;
+use readout::RowOffer;
+use readout::offer_of;
 use rowlines::rows::put_together;
-use workings::read::RowOffer;
-use workings::read::offer_of;
+use workings::NO_ROW;
 use workings::row::WorkedRow;
 use workings::works::WorksAnswer;
 use workings::works::workings;
@@ -10,8 +10,8 @@ ghost use mathlib.Core.Path.{_≡_};
 ghost use Prim.Native.Nat.{_+_, _*_, _≤_, _<_};
 ghost use Rattle.laws.specs.Sum.{sumTo};
 ghost use Rattle.forms.specs.Shown.{Shows};
-ghost use Rattle.refusing.specs.Facts.{rowIn};
-ghost use Rattle.rowpages.specs.Facts.{worked};
+ghost use Rattle.readout.specs.Facts.{rowIn};
+ghost use Rattle.workings.specs.Works.{worked};
 ghost use Rattle.rowpages.specs.Together.{clearedIn, offeredIn, furtherStep, togetherParts};
 
 // What a row clears: nothing where it is not there.

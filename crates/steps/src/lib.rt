@@ -18,7 +18,7 @@ fn not_cheaper(before: Value, price: Value) -> bool
 }
 
 // Whether there is no minimum block.
-fn is_flexible(block: Value) -> bool
+pub fn is_flexible(block: Value) -> bool
     ensures { λ r. ⌜ r ≡ flexible block ⌝ }
 {
     if let Value::Missing = block {

@@ -9,6 +9,7 @@ use denote.Ref.{RefT, now}
 use Rattle.plain.specs.declared.structs.OzpText.{OzpText}
 use Rattle.words.specs.Texts.{Told}
 use Rattle.words.specs.Words.{bytesOf, wordsOf}
+use Rattle.words.proofs.given.Reads as given
 use Rattle.words.proofs.put_text.Reads as put-text
 use Rattle.words.proofs.refused.Reads as refused
 use Rattle.words.proofs.words.Reads as words
@@ -17,6 +18,10 @@ use Rattle.words.proofs.words.Reads as words
 pub told-same : (text room : List ℕ) (r s : OzpText) (room₁ room₂ : List ℕ) → Told text room r room₁ → Told text room s room₂
     → (r ≡ s) × (room₁ ≡ room₂)
 told-same text room r s room₁ room₂ x y = (x .answered ∙ sym (y .answered), x .room-holds ∙ sym (y .room-holds))
+
+-- a text of so many bytes, by the contract of `given`
+pub given-decided : (bytes : ℕ) (r s : OzpText) → given.Post tt (bytes, tt) r (bytes, tt) → given.Post tt (bytes, tt) s (bytes, tt) → r ≡ s
+given-decided bytes r s e f = e ∙ sym f
 
 -- a refusal, by the contract of `refused`
 pub refused-decided : (number place : ℕ) (r s : OzpText)

@@ -8,7 +8,7 @@ ghost use Rattle.words.specs.Texts.{textGiven, textRefused, noText, Told
 ghost use Rattle.words.specs.Words.{bytesOf, wordsOf};
 
 // A text of so many bytes.
-fn given(bytes: u64) -> OzpText
+pub fn given(bytes: u64) -> OzpText
     ensures { λ r. ⌜ r ≡ textGiven bytes ⌝ }
 {
     OzpText {

@@ -1,5 +1,3 @@
-pub mod Offered
-pub mod Earlier
 pub mod Contested
 pub mod Rowed
 pub mod Columned

@@ -1,3 +1,2 @@
-pub mod Read
 pub mod Works
 pub mod inner

@@ -2,6 +2,7 @@
 -- Assumes nothing.
 use Prim.Native.Nat.{ℕ}
 use mathlib.Core.Bool.{cond}
+use mathlib.Core.List.{List}
 use lib.Dec.{ltb}
 use lib.ListN.{length}
 use Rattle.auction.specs.Offers.{Offers}
@@ -9,6 +10,8 @@ use Rattle.auction.specs.Shares.{spareTenths}
 use Rattle.values.specs.Contents.{Contents}
 use Rattle.values.specs.declared.Verdict.{Verdict}
 use Rattle.values.specs.declared.Verdict.the-variants.{Passed, Refused}
+use Rattle.layout.specs.Read.{contentsOf}
+use Rattle.book.specs.Faults.{firstFault}
 use Rattle.levels.specs.Stop.{stopLevel}
 use Rattle.pricing.specs.Price.{asPrice}
 use Rattle.region.specs.Region.{regionCurve}
@@ -62,3 +65,7 @@ module _ (c : Contents) where
 abbrev pub workedBy : Verdict → Works → WorksAnswer
 workedBy Passed works = Worked works
 workedBy (Refused number place) works = WorksAnswer·Refused number place
+
+-- the workings of a book's bytes: of a row, of a rung of the ladder, of a place in the contest
+abbrev pub worked : List ℕ → (row rung place : ℕ) → WorksAnswer
+worked b row rung place = workedBy (firstFault b) (worksOf (contentsOf b) row rung place)

@@ -60,7 +60,6 @@ fn works_opened(
         edition,
         1,
         rows,
-        true,
         &mut prices,
         &mut quantities,
         &mut leasts,

@@ -2,15 +2,15 @@
 --
 -- In order: a block of rows; the blocks of rows, one more at a time.
 -- Assumes nothing.
-use mathlib.Core.Path.{_≡_, refl, sym, ap, ap₂, _∙_}
-use mathlib.Core.List.{List, _++_, append-assoc, append-nil}
+use mathlib.Core.Path.{_≡_, sym, ap, ap₂, _∙_}
+use mathlib.Core.List.{List, [], _++_, append-assoc, append-nil}
 use Prim.Native.Nat.{ℕ, zero, suc, _+_, _-_, _*_, _≤_, _<_}
-use native.Mathlib.Nat.{add-zero, add-comm}
+use native.Mathlib.Nat.{add-zero, add-comm, sub-zero}
 use native.Mathlib.Omega.{arith}
 use lib.ListN.{length, take, drop, length-append, List·getD-append}
 use lib.Seq.{drop-drop, take-at, drop-at}
 use Rattle.values.specs.declared.place.Offer.{Offer}
-use Rattle.sections.specs.Section.{blocksFor, rowsHere}
+use Rattle.sections.specs.Section.{rowsHere}
 use Rattle.layout.specs.Form.{ofrs}
 use Rattle.encoding.specs.Numbers.{u16Bytes, zeros}
 use Rattle.encoding.specs.Encode.{sealed, placesBytes, rowsBytes, rowBlocks}
@@ -21,7 +21,8 @@ use Rattle.encoding.proofs.Book.{offersHere, length-offersHere, offersHere-most
 use Rattle.places.specs.inner.Put.{put}
 use Rattle.places.proofs.Puts.{put-after, put-front}
 use Rattle.making.specs.inner.Made.{sealedAt, blockMade, blocksMade}
-use Rattle.writer.proofs.Raw.{zeros-add, unusedPlaces, rawBlock, raw}
+use Rattle.making.proofs.Blanks.{zeros-add}
+use Rattle.writer.proofs.Raw.{unusedPlaces, rawBlock, raw}
 
 -- ---- a block of rows
 
@@ -79,36 +80,56 @@ blocks-one edition (suc j) k offers =
     ∙ ap₂ (λ (n : ℕ) (os : List Offer). rowBlocks edition j (suc k) (drop 15 offers) ++ sealed (rowsBytes edition n os)) number here)
     ∙ sym (append-assoc (sealed (rowsBytes edition k (take 15 offers))) (rowBlocks edition j (suc k) (drop 15 offers)) _)
 
--- what is left of the blocks that are not made yet
-abbrev pub left : ℕ → List Offer → ℕ → List ℕ
-left edition offers j = raw edition (40 - j) (drop (j * 15) offers)
+-- what is left of so many blocks that are not made yet
+abbrev left : ℕ → ℕ → List Offer → ℕ → List ℕ
+left edition blocks offers j = raw edition (blocks - j) (drop (j * 15) offers)
 
-left-one : (edition : ℕ) (offers : List Offer) (j : ℕ) → j < 40 → left edition offers j ≡ rawBlock edition (offersHere offers j) ++ left edition offers (suc j)
+left-one : (edition blocks : ℕ) (offers : List Offer) (j : ℕ) → j < blocks
+    → left edition blocks offers j ≡ rawBlock edition (offersHere offers j) ++ left edition blocks offers (suc j)
 unfolding raw
-left-one edition offers j l =
-    let more : 40 - j ≡ suc (40 - suc j) = omega arith in
+left-one edition blocks offers j l =
+    let more : blocks - j ≡ suc (blocks - suc j) = omega arith in
     let later : j * 15 + 15 ≡ suc j * 15 = omega arith in
-    ap (λ (blocks : ℕ). raw edition blocks (drop (j * 15) offers)) more
-    ∙ ap (λ (os : List Offer). rawBlock edition (offersHere offers j) ++ raw edition (40 - suc j) os)
+    ap (λ (k : ℕ). raw edition k (drop (j * 15) offers)) more
+    ∙ ap (λ (os : List Offer). rawBlock edition (offersHere offers j) ++ raw edition (blocks - suc j) os)
     (drop-drop 15 (j * 15) offers ∙ ap (λ (at : ℕ). drop at offers) later)
 
-module _ (edition : ℕ) (h : List ℕ) (first : length h ≡ 512) (offers : List Offer) (few : length offers ≤ 600) where
-  pub blocks-made : (j : ℕ) → j ≤ blocksFor (length offers)
-      → blocksMade (h ++ raw edition 40 offers) (length offers) j ≡ h ++ (rowBlocks edition j 1 offers ++ left edition offers j)
+left-none : (edition blocks : ℕ) (offers : List Offer) → left edition blocks offers blocks ≡ []
+unfolding raw
+left-none edition blocks offers =
+    let none : blocks - blocks ≡ 0 = omega arith in
+    ap (λ (k : ℕ). raw edition k (drop (blocks * 15) offers)) none
+
+module _ (edition : ℕ) (h : List ℕ) (first : length h ≡ 512) (blocks : ℕ) (offers : List Offer) (q : List ℕ) where
+  abbrev n : ℕ
+  n = length offers
+
+  blocks-made : (j : ℕ) → j ≤ blocks
+      → blocksMade (h ++ (raw edition blocks offers ++ q)) n j ≡ h ++ (rowBlocks edition j 1 offers ++ (left edition blocks offers j ++ q))
   unfolding blocksMade rowBlocks
-  blocks-made zero l = refl
+  blocks-made zero l = ap (λ (k : ℕ). h ++ (raw edition k offers ++ q)) (sym (sub-zero blocks))
   blocks-made (suc j) l =
       let os : List Offer = offersHere offers j in
+      let rest : List ℕ = left edition blocks offers (suc j) ++ q in
       let front : List ℕ = h ++ rowBlocks edition j 1 offers in
       let long : length front ≡ (j + 1) * 512 =
       length-append h (rowBlocks edition j 1 offers) ∙ ap₂ _+_ first (length-rowBlocks edition j 1 offers) ∙ omega arith in
-      ap (λ (b : List ℕ). blockMade b (j + 1) (rowsHere (length offers) j)) (blocks-made j (omega arith))
-      ∙ ap (λ (s : List ℕ). blockMade (h ++ (rowBlocks edition j 1 offers ++ s)) (j + 1) (rowsHere (length offers) j)) (left-one edition offers j (omega arith))
-      ∙ ap₂ (λ (b : List ℕ) (n : ℕ). blockMade b (j + 1) n)
-      (sym (append-assoc h (rowBlocks edition j 1 offers) (rawBlock edition os ++ left edition offers (suc j)))) (sym (length-offersHere offers j))
-      ∙ block-made edition front (j + 1) os (left edition offers (suc j)) long (offersHere-most offers j)
+      let next : left edition blocks offers j ++ q ≡ rawBlock edition os ++ rest =
+      ap (λ (s : List ℕ). s ++ q) (left-one edition blocks offers j (omega arith)) ∙ append-assoc (rawBlock edition os) (left edition blocks offers (suc j)) q in
+      ap (λ (b : List ℕ). blockMade b (j + 1) (rowsHere n j)) (blocks-made j (omega arith))
+      ∙ ap (λ (s : List ℕ). blockMade (h ++ (rowBlocks edition j 1 offers ++ s)) (j + 1) (rowsHere n j)) next
+      ∙ ap₂ (λ (b : List ℕ) (k : ℕ). blockMade b (j + 1) k)
+      (sym (append-assoc h (rowBlocks edition j 1 offers) (rawBlock edition os ++ rest))) (sym (length-offersHere offers j))
+      ∙ block-made edition front (j + 1) os rest long (offersHere-most offers j)
       ∙ append-assoc h (rowBlocks edition j 1 offers) _
       ∙ ap (λ (s : List ℕ). h ++ s)
-      (sym (append-assoc (rowBlocks edition j 1 offers) (sealed (rowsBytes edition (j + 1) os)) (left edition offers (suc j)))
-      ∙ ap (λ (n : ℕ). (rowBlocks edition j 1 offers ++ sealed (rowsBytes edition n os)) ++ left edition offers (suc j)) (add-comm j 1)
-      ∙ ap (λ (s : List ℕ). s ++ left edition offers (suc j)) (sym (blocks-one edition j 1 offers)))
+      (sym (append-assoc (rowBlocks edition j 1 offers) (sealed (rowsBytes edition (j + 1) os)) rest)
+      ∙ ap (λ (k : ℕ). (rowBlocks edition j 1 offers ++ sealed (rowsBytes edition k os)) ++ rest) (add-comm j 1)
+      ∙ ap (λ (s : List ℕ). s ++ rest) (sym (blocks-one edition j 1 offers)))
+
+  -- all blocks, made around their places
+  pub blocks-all : blocksMade (h ++ (raw edition blocks offers ++ q)) n blocks ≡ (h ++ rowBlocks edition blocks 1 offers) ++ q
+  blocks-all =
+      blocks-made blocks (omega arith)
+      ∙ ap (λ (s : List ℕ). h ++ (rowBlocks edition blocks 1 offers ++ (s ++ q))) (left-none edition blocks offers)
+      ∙ sym (append-assoc h (rowBlocks edition blocks 1 offers) q)

@@ -1,4 +1,4 @@
--- The book that is made around rows in their places is the one that says the contents.
+-- The book that is made in blanked room is the one that says the contents.
 --
 -- In order: block 0; the book.
 -- Assumes nothing.
@@ -6,26 +6,27 @@ use mathlib.Core.Path.{_≡_, refl, sym, ap, ap₂, _∙_}
 use mathlib.Core.List.{List, [], _∷_, _++_, append-assoc}
 use Prim.Native.Nat.{ℕ, _/_, _%_, _≤_}
 use native.Mathlib.Omega.{arith}
-use lib.ListN.{length, take, length-append}
-use lib.Seq.{take-at}
+use lib.ListN.{length, drop, length-append}
 use Rattle.values.specs.Contents.{Contents}
 use Rattle.values.specs.declared.head.Parameters.{Parameters}
 use Rattle.values.specs.declared.place.Offer.{Offer}
 use Rattle.sections.specs.Section.{blocksFor}
 use Rattle.layout.specs.Layout.{rpmb}
 use Rattle.encoding.specs.Numbers.{u16Bytes, valueBytes, zeros}
-use Rattle.encoding.specs.Encode.{sealed, headMarks, headBytes, rowBlocks, encode}
+use Rattle.encoding.specs.Encode.{sealed, headMarks, headBytes, encode}
 use Rattle.encoding.proofs.Digits.{length-zeros}
 use Rattle.encoding.proofs.Values.{mark-most, markOf-mark}
 use Rattle.encoding.proofs.Sealed.{length-sealed}
 use Rattle.encoding.proofs.Head.{length-head}
 use Rattle.encoding.proofs.Book.{encode-length}
 use Rattle.places.specs.inner.Put.{put}
+use Rattle.places.specs.inner.Rows.{putRows}
 use Rattle.places.proofs.Puts.{put-front}
-use Rattle.making.specs.inner.Made.{opening, sealedAt, blocksMade, bookMade}
-use Rattle.writer.specs.inner.Made.{bytesFor}
-use Rattle.writer.proofs.Raw.{zeros-add, raw, rawBook}
-use Rattle.writer.proofs.Blocks.{sealed-there, left, blocks-made}
+use Rattle.making.specs.inner.Made.{bytesFor, blanked, opening, sealedAt, blocksMade, bookMade}
+use Rattle.making.proofs.Blanks.{zeros-add}
+use Rattle.writer.proofs.Raw.{raw, rawBook, raw-blanked}
+use Rattle.writer.proofs.Placed.{StepsWithin, rows-put}
+use Rattle.writer.proofs.Blocks.{sealed-there, blocks-all}
 
 -- ---- block 0
 
@@ -97,7 +98,7 @@ head-made edition p rows q =
 
 -- ---- the book
 
-module _ (c : Contents) (few : length (c .offers) ≤ 600) where
+module _ (c : Contents) where
   abbrev edition : ℕ
   edition = c .edition
 
@@ -110,14 +111,19 @@ module _ (c : Contents) (few : length (c .offers) ≤ 600) where
   abbrev blocks : ℕ
   blocks = blocksFor n
 
-  book-made : bookMade edition (c .parameters) n (rawBook edition offers) ≡ encode c ++ left edition offers blocks
+  book-made : (q : List ℕ) → bookMade edition (c .parameters) n (rawBook edition blocks offers q) ≡ encode c ++ q
   unfolding bookMade encode
-  book-made =
+  book-made q =
       let h : List ℕ = sealed (headBytes edition (c .parameters) n) in
-      ap (λ (b : List ℕ). blocksMade b n blocks) (head-made edition (c .parameters) n (raw edition 40 offers))
-      ∙ blocks-made edition h (length-sealed _ (length-head edition (c .parameters) n)) offers few blocks (omega arith)
-      ∙ sym (append-assoc h (rowBlocks edition blocks 1 offers) (left edition offers blocks))
+      ap (λ (b : List ℕ). blocksMade b n blocks) (head-made edition (c .parameters) n (raw edition blocks offers ++ q))
+      ∙ blocks-all edition h (length-sealed _ (length-head edition (c .parameters) n)) blocks offers q
 
-  -- The bytes of the book that is made are those of the book that says the contents.
-  pub book-encoded : take (bytesFor n) (bookMade edition (c .parameters) n (rawBook edition offers)) ≡ encode c
-  book-encoded = ap (take (bytesFor n)) book-made ∙ take-at (encode c) (left edition offers blocks) (bytesFor n) (encode-length c)
+  -- The book that is made in blanked room, of rows that have steps of its edition, is the one that says the contents, and behind it
+  -- stands what stood there.
+  pub room-made : StepsWithin edition offers → (room : List ℕ)
+      → bookMade edition (c .parameters) n (putRows (blanked (bytesFor n) room) edition 0 offers) ≡ encode c ++ drop (length (encode c)) room
+  room-made within room =
+      ap (λ (b : List ℕ). bookMade edition (c .parameters) n (putRows b edition 0 offers)) (raw-blanked edition n room)
+      ∙ ap (bookMade edition (c .parameters) n) (rows-put edition blocks (drop (bytesFor n) room) offers (omega arith) within)
+      ∙ book-made (drop (bytesFor n) room)
+      ∙ ap (λ (k : ℕ). encode c ++ drop k room) (sym (encode-length c))

@@ -1,9 +1,6 @@
 pub mod Raw
 pub mod Placed
-pub mod LeftOut
 pub mod Blocks
 pub mod Books
-pub mod Making
 pub mod Ranges
-pub mod Faults
 pub mod Decided

@@ -1,29 +1,27 @@
 -- Rows that are put into zeros, one after another, stand in their places.
 --
--- In order: where one row more goes; what stands in the place of an offer; all rows.
+-- In order: where one row more goes; all rows.
 -- Assumes nothing.
 use mathlib.Core.Path.{_≡_, refl, sym, ap, ap₂, _∙_}
-use mathlib.Core.Bool.{Bool, true, false, cond}
-use mathlib.Core.List.{List, [], _∷_, _++_, map, append-assoc, append-nil}
+use mathlib.Core.Bool.{true}
+use mathlib.Core.List.{List, [], _∷_, _++_, append-assoc, append-nil}
 use Prim.Native.Nat.{ℕ, zero, suc, _+_, _-_, _*_, _/_, _%_, _≤_, _<_}
 use native.Mathlib.Omega.{arith}
-use lib.Dec.{eqb}
 use lib.ListN.{length, take, drop, length-append, length-drop, drop-of-length-le}
 use lib.Seq.{take-all, take-append-le, drop-append-le}
-use Rattle.laws.proofs.Cases.{by-order, by-test}
-use Rattle.values.specs.Place.{stepOf}
-use Rattle.values.specs.declared.Value.the-variants.{Missing}
+use Rattle.laws.proofs.Cases.{by-order}
+use Rattle.values.specs.Contents.{offerAt}
 use Rattle.values.specs.declared.place.Offer.{Offer}
 use Rattle.limits.specs.Offers.{stepWithin}
-use Rattle.encoding.specs.Numbers.{u16Bytes, u32Bytes, u64Bytes, zeros}
-use Rattle.encoding.specs.Encode.{stepByte, placeBytes, placesBytes}
+use Rattle.encoding.specs.Numbers.{zeros}
+use Rattle.encoding.specs.Encode.{placeBytes, placesBytes}
 use Rattle.encoding.proofs.Digits.{length-zeros}
 use Rattle.encoding.proofs.Place.{length-place}
 use Rattle.encoding.proofs.Rows.{length-places}
-use Rattle.places.specs.inner.Put.{put}
 use Rattle.places.specs.inner.Rows.{putRow, putRows}
 use Rattle.places.proofs.Puts.{put-after, put-front}
-use Rattle.writer.proofs.Raw.{zeros-add, unusedPlaces, fifteen, rawBlock, length-rawBlock, raw, raw-none, rawBook}
+use Rattle.making.proofs.Blanks.{zeros-add}
+use Rattle.writer.proofs.Raw.{unusedPlaces, fifteen, rawBlock, length-rawBlock, raw, rawBook}
 
 module _ (edition : ℕ) where
   -- ---- where one row more goes
@@ -105,58 +103,40 @@ module _ (edition : ℕ) where
       rw (take-all 15 (offers ++ o ∷ []) more, drop-of-length-le (offers ++ o ∷ []) {i = 15} more) refl)
       (block-free offers few))
 
-  -- ---- what stands in the place of an offer
-
-  -- what a place of zeros says
-  abbrev blankOffer : Offer
-  blankOffer = record { resource = 0; seller = 0; price = Missing; quantity = 0; block = Missing; stamp = 0; step = stepOf edition 0 }
-
-  blank-step : stepByte edition (stepOf edition 0) ≡ 0
-  blank-step = own (eqb edition 1)
-    where
-      own : (t : Bool) → cond t 0 (cond {A = ℕ} t 1 0) ≡ 0
-      own true = refl
-      own false = refl
-
-  blank-place : placeBytes edition blankOffer ≡ zeros 32
-  unfolding placeBytes u64Bytes u32Bytes u16Bytes zeros
-  blank-place = rw blank-step refl
-
-  -- an offer stands in its place, unless it has a step that the edition does not have: then the place is zero
-  abbrev pub placed : Offer → Offer
-  placed o = cond (stepWithin edition (o .step)) o blankOffer
-
   -- ---- all rows
 
-  row-one : (offers : List Offer) (o : Offer) → length offers < 600
-      → putRow (rawBook edition offers) edition (length offers) o ≡ rawBook edition (offers ++ placed o ∷ [])
-  unfolding putRow
-  row-one offers o l =
-      let n : ℕ = length offers in
-      let f = raw-free 40 offers l in
-      let at : (1 + n / 15) * 512 + (28 + n % 15 * 32) ≡ 512 + (place n + 0) = omega arith in
-      by-test (stepWithin edition (o .step))
-      (λ e.
-      rw (e, at, f .now, f .next o)
-      (put-after (zeros 512) (f .front ++ (zeros 32 ++ f .rest)) 512 (place n + 0) (placeBytes edition o) (length-zeros 512)
-      ∙ ap (λ (s : List ℕ). zeros 512 ++ s)
-      (put-after (f .front) (zeros 32 ++ f .rest) (place n) 0 (placeBytes edition o) (f .long)
-      ∙ ap (λ (s : List ℕ). f .front ++ s)
-      (put-front (zeros 32) (f .rest) (placeBytes edition o) (length-zeros 32 ∙ sym (length-place edition o))))))
-      (λ e. rw (e, f .now, f .next blankOffer, blank-place) refl)
+  -- offers that have steps of this edition
+  abbrev pub StepsWithin : List Offer → Type 0
+  StepsWithin offers = (row : ℕ) → row < length offers → stepWithin edition (offerAt offers row .step) ≡ true
 
-  rows-more : (offers more : List Offer) → length offers + length more ≤ 600
-      → putRows (rawBook edition offers) edition (length offers) more ≡ rawBook edition (offers ++ map placed more)
-  unfolding putRows
-  rows-more offers [] few = ap (rawBook edition) (sym (append-nil offers))
-  rows-more offers (o ∷ more) few =
-      let next : suc (length offers) ≡ length (offers ++ placed o ∷ []) = omega (arith, length-append offers (placed o ∷ [])) in
-      ap₂ (λ (b : List ℕ) (i : ℕ). putRows b edition i more) (row-one offers o (omega arith)) next
-      ∙ rows-more (offers ++ placed o ∷ []) more (omega (arith, length-append offers (placed o ∷ [])))
-      ∙ ap (rawBook edition) (append-assoc offers (placed o ∷ []) (map placed more))
+  module _ (blocks : ℕ) (q : List ℕ) where
+    abbrev book : List Offer → List ℕ
+    book offers = rawBook edition blocks offers q
 
-  -- rows that are put into zeros, one after another, stand in their places
-  pub rows-put : (offers : List Offer) → length offers ≤ 600 → putRows (zeros 20992) edition 0 offers ≡ rawBook edition (map placed offers)
-  rows-put offers few =
-      ap (λ (b : List ℕ). putRows b edition 0 offers) (zeros-add 512 20480 ∙ ap (λ (s : List ℕ). zeros 512 ++ s) (sym (raw-none edition 40)))
-      ∙ rows-more [] offers (omega arith)
+    row-one : (offers : List Offer) (o : Offer) → length offers < blocks * 15 → stepWithin edition (o .step) ≡ true
+        → putRow (book offers) edition (length offers) o ≡ book (offers ++ o ∷ [])
+    unfolding putRow
+    row-one offers o l e =
+        let n : ℕ = length offers in
+        let f = free-behind (raw edition blocks) book offers offers (zeros 512) q 512 (place n) (512 + place n) (length-zeros 512) refl refl (λ o. refl)
+        (raw-free blocks offers l) in
+        let at : (1 + n / 15) * 512 + (28 + n % 15 * 32) ≡ 512 + place n + 0 = omega arith in
+        rw (e, at, f .now, f .next o)
+        (put-after (f .front) (zeros 32 ++ f .rest) (512 + place n) 0 (placeBytes edition o) (f .long)
+        ∙ ap (λ (s : List ℕ). f .front ++ s)
+        (put-front (zeros 32) (f .rest) (placeBytes edition o) (length-zeros 32 ∙ sym (length-place edition o))))
+
+    rows-more : (offers more : List Offer) → length offers + length more ≤ blocks * 15 → StepsWithin more
+        → putRows (book offers) edition (length offers) more ≡ book (offers ++ more)
+    unfolding putRows
+    rows-more offers [] few within = ap book (sym (append-nil offers))
+    rows-more offers (o ∷ more) few within =
+        let next : suc (length offers) ≡ length (offers ++ o ∷ []) = omega (arith, length-append offers (o ∷ [])) in
+        ap₂ (λ (b : List ℕ) (i : ℕ). putRows b edition i more) (row-one offers o (omega arith) (within 0 (omega arith))) next
+        ∙ rows-more (offers ++ o ∷ []) more (omega (arith, length-append offers (o ∷ []))) (λ row l. within (suc row) (omega arith))
+        ∙ ap book (append-assoc offers (o ∷ []) more)
+
+    -- rows that are put into zeros, one after another, stand in their places
+    pub rows-put : (offers : List Offer) → length offers ≤ blocks * 15 → StepsWithin offers
+        → putRows (book []) edition 0 offers ≡ book offers
+    rows-put offers few within = rows-more [] offers (omega arith) within

@@ -1,15 +1,17 @@
--- Parameters that pass 5 fit the bytes of block 0, and offers that stand in their places fit theirs.
+-- Parameters that pass 5 fit the bytes of block 0, and offers that pass have steps of their edition.
 --
--- In order: a value; the parameters; an offer that stands, and its step.
+-- In order: a value; the parameters; the step of an offer that passes; contents that pass.
 -- Assumes nothing.
-use mathlib.Core.Path.{_≡_, refl, sym, ap, _∙_}
+use mathlib.Core.Path.{_≡_}
 use mathlib.Core.Bool.{Bool, true, false, cond}
+use mathlib.Core.List.{List}
 use Prim.Native.Nat.{ℕ, _≤_, _<_}
 use native.Mathlib.Omega.{arith}
-use lib.Dec.{eqb}
+use lib.Dec.{eqb, leb}
+use lib.ListN.{length}
 use borrow.Author.Tests.{eq-eqb, eqb-true}
-use Rattle.laws.proofs.Cases.{by-test, and-right}
-use Rattle.values.specs.Values.{held}
+use Rattle.laws.proofs.Cases.{and-right}
+use Rattle.values.specs.Contents.{Contents, offerAt}
 use Rattle.values.specs.declared.Value.{Value}
 use Rattle.values.specs.declared.Value.the-variants.{Given, Missing}
 use Rattle.values.specs.Refusals.{parameterOutOfRange, unless, andThen}
@@ -20,11 +22,13 @@ use Rattle.values.specs.declared.place.Offer.{Offer}
 use Rattle.values.proofs.Firsts.{unless-passed, andThen-left, andThen-right}
 use Rattle.limits.specs.Parameters.{within, givenWithin, byMargin, offsetMost, marginWithin, rangeFault}
 use Rattle.limits.proofs.Passing.{within-to}
-use Rattle.limits.specs.Offers.{stepWithin}
-use Rattle.encoding.specs.Widths.{ValueFits, OfferFits}
-use Rattle.encoding.specs.inner.Fits.{ParametersFit, StepFits}
-use Rattle.encoding.proofs.ReadFits.{step-fits}
-use Rattle.writer.proofs.Placed.{placed}
+use Rattle.limits.specs.Offers.{stepWithin, offerInRange, offerFault, rowsFault}
+use Rattle.limits.proofs.PassingRows.{rows-values}
+use Rattle.layout.specs.Layout.{editionKnown}
+use Rattle.book.specs.Faults.{givenFault}
+use Rattle.encoding.specs.Widths.{ValueFits, OffersFit}
+use Rattle.encoding.specs.inner.Fits.{ParametersFit, StepFits, Fits}
+use Rattle.writer.proofs.Placed.{StepsWithin}
 
 -- a value within a range that 32 bits hold
 value-fits : (least most : ℕ) (v : Value) → most < 4294967296 → givenWithin least most v ≡ true → ValueFits v
@@ -73,32 +77,40 @@ range-fits p e =
       margin = margin-fits (p .year) (p .margin) margin;
     }
 
--- ---- an offer that stands
+-- ---- offers that pass
 
-module _ (edition : ℕ) (o : Offer) where
-  pub placed-fits : OfferFits o → OfferFits (placed edition o)
-  placed-fits fits =
-      by-test (stepWithin edition (o .step))
-      (λ there. rw there fits)
-      (λ left.
-      rw left record {
-        resource = omega arith;
-        seller = omega arith;
-        price = omega arith;
-        quantity = omega arith;
-        block = omega arith;
-        stamp = omega arith;
-      })
+-- an offer's step, of the edition's own
+step-fits : (edition step : ℕ) → stepWithin edition step ≡ true → StepFits edition step
+step-fits edition step = own (eqb edition 1) (λ e. eq-eqb edition 1 e)
+  where
+    own : (t : Bool) → (edition ≡ 1 → t ≡ true) → cond t (eqb step 1) (within 1 10 step) ≡ true → StepFits edition step
+    own true first e = let one = eqb-true step 1 e in record { one = λ f. one; byte = omega arith }
+    own false first e = record { one = λ f. cc (first f); byte = omega (arith, within-to 1 10 step e) }
 
-  within-fits : stepWithin edition (o .step) ≡ true → StepFits edition (o .step)
-  within-fits = own (eqb edition 1) (λ e. eq-eqb edition 1 e)
-    where
-      own : (t : Bool) → (edition ≡ 1 → t ≡ true) → cond t (eqb (o .step) 1) (within 1 10 (o .step)) ≡ true → StepFits edition (o .step)
-      own true first e = let one = eqb-true (o .step) 1 e in record { one = λ f. one; byte = omega arith }
-      own false first e = record { one = λ f. cc (first f); byte = omega (arith, within-to 1 10 (o .step) e) }
+offer-step : (edition : ℕ) (o : Offer) (row : ℕ) → offerFault false edition o row ≡ Passed → stepWithin edition (o .step) ≡ true
+unfolding offerFault offerInRange
+offer-step edition o row e =
+    and-right (givenWithin 1 (o .quantity) (o .block)) _
+    (and-right (within 1 200000 (o .quantity)) _
+    (and-right (givenWithin 0 1000000 (o .price)) _
+    (and-right (leb 1 (o .seller)) _ (and-right (leb 1 (o .resource)) _ (unless-passed _ 7 row e)))))
 
-  pub placed-step : StepFits edition (placed edition o .step)
-  placed-step =
-      by-test (stepWithin edition (o .step))
-      (λ there. rw there (within-fits there))
-      (λ left. rw left (step-fits edition 0 (omega arith)))
+-- Offers that pass have steps of their edition.
+pub rows-within : (edition : ℕ) (offers : List Offer) → rowsFault false edition (offerAt offers) (length offers) ≡ Passed
+    → StepsWithin edition offers
+rows-within edition offers e row l =
+    offer-step edition (offerAt offers row) row (rows-values false edition (offerAt offers) (length offers) e row l)
+
+-- Contents in which nothing is found fit the bytes of a book.
+pub given-fits : (c : Contents) → length (c .offers) ≤ 600 → editionKnown (c .edition) ≡ true → givenFault c ≡ Passed
+    → OffersFit (c .offers) → Fits c
+unfolding givenFault
+given-fits c few known e fit =
+    let rows = andThen-right (rangeFault (c .parameters)) _ e in
+    record {
+      edition = known;
+      few = few;
+      parameters = range-fits (c .parameters) (andThen-left (rangeFault (c .parameters)) _ e);
+      offers = fit;
+      steps = λ row l. step-fits (c .edition) (offerAt (c .offers) row .step) (rows-within (c .edition) (c .offers) rows row l);
+    }

@@ -1,29 +1,20 @@
--- A book that holds its rows in their places and is zero elsewhere.
+-- A book that holds its rows in their places and is zero elsewhere, and what stands behind it.
 --
--- In order: zeros; a block with its places alone, and blocks of them; the book.
+-- In order: a block with its places alone, and blocks of them; the book.
 -- Assumes nothing.
 use mathlib.Core.Path.{_≡_, refl, sym, ap, ap₂, _∙_}
-use mathlib.Core.List.{List, [], _∷_, _++_}
+use mathlib.Core.List.{List, [], _∷_, _++_, append-assoc}
 use Prim.Native.Nat.{ℕ, zero, suc, _+_, _-_, _*_, _≤_}
-use native.Mathlib.Nat.{zero-add, suc-add}
 use native.Mathlib.Omega.{arith}
-use lib.ListN.{length, take, drop, replicate, length-append, length-take}
+use lib.ListN.{length, take, drop, length-append, length-take}
 use Rattle.values.specs.declared.place.Offer.{Offer}
+use Rattle.sections.specs.Section.{blocksFor}
 use Rattle.encoding.specs.Numbers.{zeros}
 use Rattle.encoding.specs.Encode.{placesBytes}
 use Rattle.encoding.proofs.Digits.{length-zeros}
 use Rattle.encoding.proofs.Rows.{length-places}
-
--- zeros as a new array holds them
-pub zeros-are : (n : ℕ) → replicate n 0 ≡ zeros n
-unfolding zeros
-zeros-are zero = refl
-zeros-are (suc n) = ap (λ (s : List ℕ). 0 ∷ s) (zeros-are n)
-
-pub zeros-add : (m n : ℕ) → zeros (m + n) ≡ zeros m ++ zeros n
-unfolding zeros
-zeros-add zero n = ap zeros (zero-add n)
-zeros-add (suc m) n = ap zeros (suc-add m n) ∙ ap (λ (s : List ℕ). 0 ∷ s) (zeros-add m n)
+use Rattle.making.specs.inner.Made.{bytesFor, blanked}
+use Rattle.making.proofs.Blanks.{zeros-add}
 
 no-zeros : [] ≡ zeros 0
 unfolding zeros
@@ -49,14 +40,6 @@ module _ (edition : ℕ) where
   raw zero offers = []
   raw (suc blocks) offers = rawBlock (take 15 offers) ++ raw blocks (drop 15 offers)
 
-  length-raw : (blocks : ℕ) (offers : List Offer) → length (raw blocks offers) ≡ blocks * 512
-  unfolding raw
-  length-raw zero offers = refl
-  length-raw (suc blocks) offers =
-      length-append (rawBlock (take 15 offers)) (raw blocks (drop 15 offers))
-      ∙ ap₂ _+_ (length-rawBlock (take 15 offers) (fifteen offers)) (length-raw blocks (drop 15 offers))
-      ∙ omega arith
-
   -- with no offers all is zero
   pub raw-none : (blocks : ℕ) → raw blocks [] ≡ zeros (blocks * 512)
   unfolding raw rawBlock placesBytes
@@ -66,9 +49,17 @@ module _ (edition : ℕ) where
       let next : 512 + blocks * 512 ≡ suc blocks * 512 = omega arith in
       ap₂ _++_ block (raw-none blocks) ∙ sym (zeros-add 512 (blocks * 512)) ∙ ap zeros next
 
-  -- the book before it is made
-  abbrev pub rawBook : List Offer → List ℕ
-  rawBook offers = zeros 512 ++ raw 40 offers
+  -- the book before it is made, and what stands behind it
+  abbrev pub rawBook : ℕ → List Offer → List ℕ → List ℕ
+  rawBook blocks offers q = zeros 512 ++ (raw blocks offers ++ q)
 
-  pub length-rawBook : (offers : List Offer) → length (rawBook offers) ≡ 20992
-  length-rawBook offers = length-append (zeros 512) (raw 40 offers) ∙ ap₂ _+_ (length-zeros 512) (length-raw 40 offers)
+  -- room that is blanked for so many rows is such a book with no offers
+  pub raw-blanked : (rows : ℕ) (room : List ℕ) → blanked (bytesFor rows) room ≡ rawBook (blocksFor rows) [] (drop (bytesFor rows) room)
+  unfolding blanked
+  raw-blanked rows room =
+      let q : List ℕ = drop (bytesFor rows) room in
+      let bytes : bytesFor rows ≡ 512 + blocksFor rows * 512 = omega arith in
+      ap (λ (k : ℕ). zeros k ++ q) bytes
+      ∙ ap (λ (s : List ℕ). s ++ q) (zeros-add 512 (blocksFor rows * 512))
+      ∙ append-assoc (zeros 512) (zeros (blocksFor rows * 512)) q
+      ∙ ap (λ (s : List ℕ). zeros 512 ++ (s ++ q)) (sym (raw-none (blocksFor rows)))

@@ -1,21 +1,19 @@
 -- `put_converted` answers and leaves what the call that converts means.
 -- Assumes nothing.
-use mathlib.Core.Path.{ap}
-use Prim.Native.Nat.{ℕ}
-use native.Mathlib.Nat.{sub-zero}
+use mathlib.Core.Path.{_≡_, sym, _∙_}
+use Prim.Native.Nat.{ℕ, _<_}
 use native.Mathlib.Omega.{arith}
-use lib.ListN.{length, take}
+use lib.ListN.{length}
+use Rattle.block.specs.Bytes.{byte}
 use borrow.Author.Needs.{needs}
-use Rattle.writer.proofs.Raw.{zeros-are}
-use Rattle.convert.proofs.Converting.{converted-refused, converted-most, converted-put}
+use Rattle.values.specs.declared.Verdict.the-variants.{Passed}
+use Rattle.convert.specs.inner.Converts.{ownFault}
+use Rattle.convert.proofs.Converting.{converted-refused, converted-short, converted-made, own-sound}
 use Rattle.convert.proofs.put_converted.Statement.{statement}
 use Rattle.convert.proofs.put_converted.Tie as tie
 
-slice-aggregate-convert : tie.Need-slice-aggregate-convert
-slice-aggregate-convert c = search needs
-
-convert-requires : tie.Need-convert-requires
-convert-requires c κs = search needs
+own-fault-requires : tie.Need-own-fault-requires
+own-fault-requires c κs = search needs
 
 enum-known-number : tie.Need-enum-known-number
 enum-known-number c = search needs
@@ -24,48 +22,61 @@ refused-requires : tie.Need-refused-requires
 refused-requires c κs = search needs
 
 returns : tie.Need-returns
-returns c =
-    converted-refused _ _ _ (zeros-are 20992) (c .before .before .before .before .before .convert .ensures) _ _ (c .before .before .number .given .1) (c .refused .ensures)
+returns c = converted-refused _ _ _ _ (sym (c .before .before .before .before .own-fault .ensures) ∙ c .before .before .number .given .1) (c .refused .ensures)
 
 enum-told : tie.Need-enum-told
 enum-told c = search needs
 
-sub-put-text : tie.Need-sub-put-text
-sub-put-text c = search needs
+-- past the first test nothing refuses the book but the room
+owned : (c : tie.After-enum-told) → ownFault (c .before .before .before .before .before .args .book .now) ≡ Passed
+owned c = sym (c .before .before .own-fault .ensures) ∙ c .enum-told .given .1
 
-part-put-text-start : tie.Need-part-put-text-start
-part-put-text-start c = search needs
+-- what the book holds are bytes
+bytes-known : (c : tie.After-enum-told) → let b = c .before .before .before .before .before .args .book .now in (i : ℕ) → i < length b → byte b i < 256
+bytes-known c i l = omega (arith, c .before .before .before .before .shared-slice-known .given i)
 
-part-put-text-end : tie.Need-part-put-text-end
-part-put-text-end c =
-    let s = c .before .before .before .before .before .before .before .before .before .args in
-    omega (arith, converted-most (s .book .now) (s .room .now) _ (zeros-are 20992) (c .before .before .before .before .before .convert .ensures) (c .before .before .enum-told .given .1))
+refused-requires-2 : tie.Need-refused-requires-2
+refused-requires-2 c κs = search needs
 
-put-text-requires : tie.Need-put-text-requires
-put-text-requires c κs = search needs
+returns-2 : tie.Need-returns-2
+returns-2 c =
+    let told = c .before .before in
+    converted-short _ _ (owned told) (bytes-known told) (c .before .if1 .taken) (c .refused2 .ensures)
+
+blank-requires : tie.Need-blank-requires
+blank-requires c κs = search needs
+
+put-other-requires : tie.Need-put-other-requires
+put-other-requires c κs =
+    let told = c .before .before .before .before .before .before in
+    (own-sound _ (owned told), search needs)
+
+given-requires : tie.Need-given-requires
+given-requires c κs = search needs
 
 same-length : tie.Need-same-length
 same-length c = search needs
 
-returns-2 : tie.Need-returns-2
-returns-2 c =
-    let done = c .before .before .before .before .before .before .before .before .before in
-    converted-put _ _ _ (zeros-are 20992) (done .convert .ensures) (c .before .before .before .before .before .before .enum-told .given .1)
-    (λ i l. omega (arith, c .before .before .before .before .before .before .before .before .before .before .before .before .shared-slice-known .given i)) _ (ap (λ (k : ℕ). take k (done .convert .last .1 .0)) (sub-zero (length (c .before .before .before .before .before .before .before .before .before .before .before .before .before .args .book .now)))) (c .before .before .put-text .ensures)
+returns-3 : tie.Need-returns-3
+returns-3 c =
+    let put = c .before .before .before in
+    let blank = put .before .before .before .before in
+    let else = blank .before .before in
+    converted-made _ _ (owned (else .before)) (bytes-known (else .before)) (omega (arith, else .if1 .left)) (blank .blank .ensures) (put .put-other .ensures) (c .given .ensures)
 
 pub put-converted-spec : {M : Type 1} → statement M
 put-converted-spec =
     tie.close
     (tie.spec
-    slice-aggregate-convert
-    convert-requires
+    own-fault-requires
     enum-known-number
     refused-requires
     returns
     enum-told
-    sub-put-text
-    part-put-text-start
-    part-put-text-end
-    put-text-requires
+    refused-requires-2
+    returns-2
+    blank-requires
+    put-other-requires
+    given-requires
     same-length
-    returns-2)
+    returns-3)

@@ -1,6 +1,6 @@
 -- `put_rows` puts the rows of a book into their places of another. The loop's invariant: the rows passed stand there.
 -- Assumes nothing.
-use mathlib.Core.Path.{_≡_, ap, _∙_}
+use mathlib.Core.Path.{_≡_, refl, ap, _∙_}
 use Prim.Native.Nat.{ℕ, _-_, _≤_}
 use lib.ListN.{length}
 use native.Mathlib.Omega.{arith}
@@ -12,14 +12,14 @@ use Rattle.convert.proofs.put_rows.Statement.{statement}
 use Rattle.convert.proofs.put_rows.Tie as tie
 
 abbrev Inv-loop : tie.InvT-loop
-Inv-loop book edition other n made₀ row₀ made row =
-    (row ≤ n) × (length made ≡ 20992) × (made ≡ putRows made₀ other 0 (rowOffers book edition 1 row))
+Inv-loop book edition other n room₀ row₀ room row =
+    (row ≤ n) × (length room ≡ length room₀) × (room ≡ putRows room₀ other 0 (rowOffers book edition 1 row))
 
 abbrev μ-loop : tie.MeasureT-loop
-μ-loop book edition other n made₀ row₀ made row = n - row
+μ-loop book edition other n room₀ row₀ room row = n - row
 
 loop-holds : tie.Need-loop-holds Inv-loop μ-loop
-loop-holds c = (search needs, search needs, put-none _ _ _ _)
+loop-holds c = (search needs, refl, put-none _ _ _ _)
 
 row-bytes-requires : tie.Need-row-bytes-requires Inv-loop μ-loop
 row-bytes-requires c κs = c .before .before .before .before .before .pre .0 .within (c .before .before .loop .row) (c .before .loop-test .taken)
@@ -30,7 +30,9 @@ offer-in-requires c κs = search needs
 put-row-requires : tie.Need-put-row-requires Inv-loop μ-loop
 put-row-requires c κs =
     let at = c .before .before .before .before in
-    (at .loop .inv .1, omega (arith, c .before .before .before .loop-test .taken, at .before .before .before .pre .0 .few))
+    let start = at .before .before .before in
+    let taken = c .before .before .before .loop-test .taken in
+    (omega (arith, at .loop .inv .1, start .pre .1, start .pre .0 .within (at .loop .row) taken), omega (arith, taken, start .pre .0 .few))
 
 add-row : tie.Need-add-row Inv-loop μ-loop
 add-row c = search needs
@@ -46,7 +48,7 @@ loop-again c =
     let s = at .before .before .before .args in (
       search needs,
       search needs,
-      put-more (s .book .now) (s .made .now) (s .edition) (s .other) (at .loop .row) (at .loop .inv .2)
+      put-more (s .book .now) (s .room .now) (s .edition) (s .other) (at .loop .row) (at .loop .inv .2)
           (row-own (s .book .now) (s .edition) (at .loop .row) (read .before .row-bytes .ensures .0) (read .offer-in .ensures))
           (put .put-row .ensures),
     )
@@ -59,7 +61,7 @@ returns c =
     let at = c .before in
     let s = at .before .before .before .args in
     let all : at .loop .row ≡ s .n = omega (arith, c .loop-test .left, at .loop .inv .0) in
-    at .loop .inv .2 ∙ ap (λ (k : ℕ). putRows (s .made .now) (s .other) 0 (rowOffers (s .book .now) (s .edition) 1 k)) all
+    at .loop .inv .2 ∙ ap (λ (k : ℕ). putRows (s .room .now) (s .other) 0 (rowOffers (s .book .now) (s .edition) 1 k)) all
 
 pub put-rows-spec : {M : Type 1} → statement M
 put-rows-spec =

@@ -1,11 +1,10 @@
--- What converting a book answers, and what it leaves in the bytes in which the other book is made.
+-- When converting a book is refused before the room is looked at, and the other book as it is made.
 -- Assumes nothing.
 use Prim.Native.Nat.{ℕ}
-use mathlib.Core.Path.{_≡_}
 use mathlib.Core.List.{List}
 use lib.ListN.{length}
 use Rattle.values.specs.Contents.{Contents}
-use Rattle.values.specs.Refusals.{andThen, bufferBy}
+use Rattle.values.specs.Refusals.{andThen}
 use Rattle.values.specs.declared.Verdict.{Verdict}
 use Rattle.layout.specs.Read.{contentsOf}
 use Rattle.book.specs.Faults.{soundFault}
@@ -19,10 +18,6 @@ ownFault b = andThen (soundFault b) (downFault (contentsOf b))
 
 -- the rows in their places of the other edition, and the book made around them
 unfoldable pub otherMade : Contents → List ℕ → List ℕ
-otherMade c made =
+otherMade c room =
     let edition = otherEdition (c .edition) in
-    bookMade edition (c .parameters) (length (c .offers)) (putRows made edition 0 (c .offers))
-
-pub record Converts (b made : List ℕ) (r : Verdict) (made′ : List ℕ) : Type 0 where
-  pub fault : r ≡ ownFault b
-  pub made-holds : made′ ≡ bufferBy r made (otherMade (contentsOf b) made)
+    bookMade edition (c .parameters) (length (c .offers)) (putRows room edition 0 (c .offers))

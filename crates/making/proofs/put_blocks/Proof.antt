@@ -1,4 +1,4 @@
-use mathlib.Core.Path.{ap, _∙_}
+use mathlib.Core.Path.{refl, ap, _∙_}
 use Rattle.making.proofs.Fields.{blocks-none, blocks-more}
 use mathlib.Core.Path.{_≡_}
 use Prim.Native.Nat.{_-_, _≤_}
@@ -19,7 +19,7 @@ abbrev Inv-loop : tie.InvT-loop
 Inv-loop b₀ rows j₀ j-end b j =
     (j-end ≡ blocksFor rows)
     × (j ≤ j-end)
-    × (length b ≡ 20992)
+    × (length b ≡ length b₀)
     × (b ≡ blocksMade b₀ rows j)
 
 abbrev μ-loop : tie.MeasureT-loop
@@ -31,7 +31,7 @@ blocks-for-requires c κs = search needs
 
 -- src/lib.rt:94:5
 loop-holds : tie.Need-loop-holds Inv-loop μ-loop
-loop-holds c = (c .blocks-for .ensures, omega arith, c .before .before .pre .0, blocks-none _ _)
+loop-holds c = (c .blocks-for .ensures, omega arith, refl, blocks-none _ _)
 
 -- src/lib.rt:95:22
 add-put-block : tie.Need-add-put-block Inv-loop μ-loop
@@ -45,7 +45,8 @@ rows-here-requires c κs = search needs
 put-block-requires : tie.Need-put-block-requires Inv-loop μ-loop
 put-block-requires c κs =
     let l = c .before .before .before .loop .inv in
-    (omega (arith, l .2), omega arith, omega (arith, c .rows-here .ensures))
+    let room = c .before .before .before .before .before .before .pre .0 in
+    (omega (arith, l .2, room), omega arith, omega (arith, c .rows-here .ensures))
 
 -- src/lib.rt:94:9
 add-j : tie.Need-add-j Inv-loop μ-loop

@@ -1,6 +1,7 @@
 -- The book that is made around rows that stand in their places.
 --
--- In order: a block sealed in its place; block 0; a block of rows, and all of them; the book.
+-- In order: how many bytes it has, and bytes that are blanked; a block sealed in its place; block 0; a block of rows, and all of
+-- them; the book.
 -- Assumes nothing.
 use Prim.Native.Nat.{ℕ, zero, suc, _+_, _*_}
 use mathlib.Core.List.{List, _++_}
@@ -10,9 +11,17 @@ use Rattle.values.specs.declared.head.Parameters.{Parameters}
 use Rattle.sections.specs.Section.{blocksFor, rowsHere}
 use Rattle.layout.specs.Layout.{rpmb}
 use Rattle.layout.specs.Form.{ofrs}
-use Rattle.encoding.specs.Numbers.{u16Bytes, valueBytes}
+use Rattle.encoding.specs.Numbers.{u16Bytes, valueBytes, zeros}
 use Rattle.encoding.specs.Encode.{headMarks}
 use Rattle.places.specs.inner.Put.{put}
+
+-- how many bytes the book of so many rows has
+abbrev pub bytesFor : ℕ → ℕ
+bytesFor rows = 512 * (1 + blocksFor rows)
+
+-- zeros in the first n bytes, and behind them what stood there
+unfoldable pub blanked : ℕ → List ℕ → List ℕ
+blanked n b = zeros n ++ drop n b
 
 -- both sums of the block that starts at a place, in its last four bytes
 unfoldable pub sealedAt : List ℕ → ℕ → List ℕ

@@ -2,7 +2,7 @@
 -- Assumes nothing.
 use Prim.Native.Nat.{ℕ, _+_, _-_, _*_, _/_, _≤_}
 use mathlib.Core.Path.{_≡_}
-use mathlib.Core.Bool.{Bool}
+use mathlib.Core.Bool.{Bool, true}
 use mathlib.Core.List.{List}
 use lib.ListN.{length}
 use Rattle.values.specs.Contents.{offerAt}
@@ -34,17 +34,7 @@ pub record ValuesTested (needed : Bool) (edition : ℕ) (offers : List Offer) (n
   pub resource : Column (rowResource offers) (rowsTested fault n) resources₀ resources
   pub step : Column (rowStep offers) (rowsTested fault n) steps₀ steps
 
--- the same fault, and all columns of the rows up to it
-pub record ValuesRead (needed : Bool) (edition : ℕ) (offers : List Offer) (n : ℕ) (fault : Verdict) (before after : Columns) : Type 0 where
-  pub found : fault ≡ valuesFault needed edition (offerAt offers) n
-  pub within : rowsTested fault n ≤ n
-  pub read : ColumnsRead offers (rowsTested fault n) before after
-
--- how many rows stand in the columns once they are tested: all, or those up to the first that 6, 7 or 10 refuses
-abbrev pub rowsStored : Bool → ℕ → List Offer → ℕ
-rowsStored needed edition offers = rowsTested (valuesFault needed edition (offerAt offers) (length offers)) (length offers)
-
--- the first fault of offers, and the columns
-pub record RowsRead (needed : Bool) (edition : ℕ) (offers : List Offer) (fault : Verdict) (before after : Columns) : Type 0 where
-  pub found : fault ≡ rowsFault needed edition (offerAt offers) (length offers)
-  pub read : ColumnsRead offers (rowsStored needed edition offers) before after
+-- the first fault of offers whose prices are needed, and all of them in the columns, refused or not
+pub record RowsRead (edition : ℕ) (offers : List Offer) (fault : Verdict) (before after : Columns) : Type 0 where
+  pub found : fault ≡ rowsFault true edition (offerAt offers) (length offers)
+  pub read : ColumnsRead offers (length offers) before after

@@ -5,7 +5,7 @@ use mathlib.Core.List.{List}
 use mathlib.Core.Option.{Option}
 use lib.ListN.{getD}
 use Rattle.auction.specs.Settlement.{mills}
-use Rattle.refusing.specs.Facts.{rowIn}
+use Rattle.readout.specs.Facts.{rowIn}
 use Rattle.rowpages.specs.Table.{lineParts}
 
 abbrev pub lineBy : List ℕ → Option ℕ → (cleared committed : List ℕ) → (amount sum row : ℕ) → List (List ℕ)

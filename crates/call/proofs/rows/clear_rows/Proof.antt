@@ -5,7 +5,6 @@ use native.Mathlib.Omega.{arith}
 use lib.ListN.{length}
 use borrow.Author.Needs.{needs}
 use Rattle.values.specs.declared.Verdict.the-variants.{Passed}
-use Rattle.values.proofs.Firsts.{andThen-left}
 use Rattle.layout.specs.Read.{contentsOf}
 use Rattle.columns.specs.inner.Columns.{Columns, columnsOf}
 use Rattle.columns.proofs.Offers.{blank-room}
@@ -79,7 +78,7 @@ callable c = passed-callable _ _ _ (sym (passed c))
 -- the columns after the rows are read
 abbrev columns : tie.After-enum-told → Columns
 columns c =
-    let l = read (c .before .before) .read-rows .last .1 .1 .1 .1 .1 in
+    let l = read (c .before .before) .read-rows .last .1 .1 .1 .1 in
     columnsOf (l .0) (l .1 .0) (l .1 .1 .0) (l .1 .1 .1 .0) (l .1 .1 .1 .1 .0) (l .1 .1 .1 .1 .1 .0)
 
 -- what the book says stands in them
@@ -87,9 +86,7 @@ stands : (c : tie.After-enum-told) → let a = entry (c .before .before) .args i
     Stands (contentsOf (a .book .now)) (a .p) (a .rows) (columns c)
 stands c =
     let tested = c .before .before in
-    let found = read tested .read-rows in
-    opened-stands _ _ _ _ (entry tested .pre .0) _ (columns c) _ (callable c .accepted) (entry tested .pre .1) (found .ensures)
-    (andThen-left _ _ (sym (tested .and-then .ensures) ∙ c .enum-told .given .1))
+    opened-stands _ _ _ _ (entry tested .pre .0) _ (columns c) _ (callable c .accepted) (entry tested .pre .1) (read tested .read-rows .ensures)
 
 clearing-requires : tie.Need-clearing-requires
 clearing-requires c κs =

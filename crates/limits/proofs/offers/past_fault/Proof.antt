@@ -14,7 +14,10 @@ offer-fault-requires c κs = search needs
 
 returns : tie.Need-returns
 unfolding pastFault
-returns c = rw (c .if1 .taken) (c .before .offer-fault .ensures ∙ sym (fault-alone _))
+returns c = rw (c .before .if1 .taken) (c .offer-fault .ensures ∙ sym (fault-alone _))
+
+offer-fault-requires-2 : tie.Need-offer-fault-requires-2
+offer-fault-requires-2 c κs = search needs
 
 and-then-requires : tie.Need-and-then-requires
 and-then-requires c κs = search needs
@@ -22,9 +25,9 @@ and-then-requires c κs = search needs
 returns-2 : tie.Need-returns-2
 unfolding pastFault
 returns-2 c =
-    rw (c .before .if1 .left)
+    rw (c .before .before .if1 .left)
     (c .and-then .ensures
-    ∙ ap (λ (v : Verdict). andThen v (brokenSteps (c .before .before .before .args .row))) (c .before .before .offer-fault .ensures))
+    ∙ ap (λ (v : Verdict). andThen v (brokenSteps (c .before .before .before .args .row))) (c .before .offer-fault2 .ensures))
 
 pub past-fault-spec : {M : Type 1} → statement M
-past-fault-spec = tie.close (tie.spec offer-fault-requires returns and-then-requires returns-2)
+past-fault-spec = tie.close (tie.spec offer-fault-requires returns offer-fault-requires-2 and-then-requires returns-2)

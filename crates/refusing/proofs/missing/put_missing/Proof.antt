@@ -5,11 +5,11 @@ use mathlib.Core.List.{List}
 use Prim.Native.Nat.{ℕ, _-_, _≤_}
 use lib.ListN.{length}
 use Rattle.forms.specs.Shown.{Shows}
+use Rattle.forms.specs.Parts.{partsOf}
 use Rattle.forms.proofs.Shows.{shows-more}
-use Rattle.refusing.specs.Parts.{partsOf}
-use Rattle.refusing.specs.Facts.{rowIn}
+use Rattle.forms.proofs.Putting.{parts-none, parts-more, parts-counted}
+use Rattle.readout.specs.Facts.{rowIn}
 use Rattle.refusing.specs.Missing.{unpricedRow, missingParts}
-use Rattle.refusing.proofs.Putting.{parts-none, parts-more, parts-counted}
 use native.Mathlib.Omega.{arith}
 use borrow.Author.Needs.{needs}
 use Rattle.refusing.proofs.missing.put_missing.Statement.{statement}

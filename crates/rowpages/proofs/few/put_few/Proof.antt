@@ -5,14 +5,14 @@ use mathlib.Core.List.{List, _++_}
 use Prim.Native.Nat.{ℕ, _-_, _≤_}
 use lib.ListN.{length}
 use Rattle.forms.specs.Shown.{Shows}
+use Rattle.forms.specs.Parts.{partsOf}
 use Rattle.forms.proofs.Shows.{shows-then}
-use Rattle.refusing.specs.Parts.{partsOf}
-use Rattle.refusing.specs.Facts.{rowIn}
-use Rattle.rowpages.specs.Facts.{worked}
+use Rattle.forms.proofs.Putting.{parts-none, parts-more, parts-counted}
+use Rattle.readout.specs.Facts.{rowIn}
+use Rattle.workings.specs.Works.{worked}
 use Rattle.rowpages.specs.Row.{rowParts}
 use Rattle.rowpages.specs.Together.{togetherParts}
 use Rattle.rowpages.specs.Rows.{fewParts}
-use Rattle.refusing.proofs.Putting.{parts-none, parts-more, parts-counted}
 use native.Mathlib.Omega.{arith}
 use borrow.Author.Needs.{needs}
 use Rattle.rowpages.proofs.few.put_few.Statement.{statement}

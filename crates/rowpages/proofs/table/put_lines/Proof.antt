@@ -5,9 +5,9 @@ use Prim.Native.Nat.{_-_, _≤_}
 use lib.ListN.{length}
 use Rattle.settle.specs.inner.Read.{quoted}
 use Rattle.forms.specs.Shown.{Shows}
-use Rattle.refusing.specs.Parts.{partsOf}
+use Rattle.forms.specs.Parts.{partsOf}
+use Rattle.forms.proofs.Putting.{parts-none, parts-more, parts-counted}
 use Rattle.rowpages.specs.inner.Table.{lineBy}
-use Rattle.refusing.proofs.Putting.{parts-none, parts-more, parts-counted}
 use native.Mathlib.Omega.{arith}
 use borrow.Author.Needs.{needs}
 use Rattle.rowpages.proofs.table.put_lines.Statement.{statement}

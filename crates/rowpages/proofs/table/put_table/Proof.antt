@@ -1,6 +1,6 @@
 -- `put_table` puts lines by what a call answers: it accepts the book, so each entry is what its row clears or commits.
 -- Assumes nothing.
-use Rattle.rowpages.proofs.Showing.{shows-as}
+use Rattle.forms.proofs.Shows.{shows-as}
 use Rattle.rowpages.proofs.Accepted.{table-own, refused-not}
 use borrow.Author.Needs.{needs}
 use Rattle.rowpages.proofs.table.put_table.Statement.{statement}

@@ -4,9 +4,9 @@ use mathlib.Core.Path.{_≡_}
 use Prim.Native.Nat.{_+_, _-_, _*_, _≤_}
 use Rattle.laws.specs.Sum.{sumTo}
 use Rattle.laws.proofs.Loops.{added-none, added-more}
-use Rattle.refusing.specs.Facts.{rowIn}
+use Rattle.readout.specs.Facts.{rowIn}
 use Rattle.rowpages.specs.Together.{offeredIn}
-use Rattle.rowpages.proofs.Showing.{added-all}
+use Rattle.rowpages.proofs.Added.{added-all}
 use native.Mathlib.Omega.{arith}
 use borrow.Author.Needs.{needs}
 use Rattle.rowpages.proofs.together.offered_from.Statement.{statement}

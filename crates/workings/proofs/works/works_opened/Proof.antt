@@ -71,7 +71,7 @@ accepted c = fault (read (c .before .before)) ∙ c .enum-told .given .1
 -- the columns after the rows are read
 abbrev columns : tie.After-enum-told → Columns
 columns c =
-    let l = read (c .before .before) .read-rows .last .1 .1 .1 .1 .1 in
+    let l = read (c .before .before) .read-rows .last .1 .1 .1 .1 in
     columnsOf (l .0) (l .1 .0) (l .1 .1 .0) (l .1 .1 .1 .0) (l .1 .1 .1 .1 .0) (l .1 .1 .1 .1 .1 .0)
 
 -- what the book says stands in them
@@ -80,7 +80,6 @@ stands : (c : tie.After-enum-told) → let a = entry (read (c .before .before)) 
 stands c =
     let start = entry (read (c .before .before)) in
     opened-stands _ _ _ _ (start .pre) _ (columns c) _ (accepted c) (blank start) (read (c .before .before) .read-rows .ensures)
-    (c .enum-told .given .1)
 
 slice-aggregate-works-at : tie.Need-slice-aggregate-works-at
 slice-aggregate-works-at c = search needs

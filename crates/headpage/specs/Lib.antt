@@ -1,0 +1,4 @@
+pub mod Facts
+pub mod Levels
+pub mod Division
+pub mod Accepted
