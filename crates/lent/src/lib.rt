@@ -1,5 +1,6 @@
 // A book of either edition written from plain structs into room that a caller lends. The rows are tested one by one; where nothing
 // refuses them the room is blanked, each row is put into its place of it, and the book is made around them.
+mod alone;
 pub mod tested;
 
 use crate::tested::Draft;

@@ -1,4 +1,5 @@
 // The rows of a book that is to be written, tested one by one before any of them is put.
+use crate::alone::passes_alone;
 use limits::offers::offer_fault;
 use limits::offers::past_fault;
 use plain::given::offer_in;
@@ -17,10 +18,10 @@ ghost use Prim.Native.Nat.{_+_, _/_, _≤_, _<_};
 ghost use lib.ListN.{length};
 ghost use Rattle.limits.specs.inner.Rows.{rowFault, rowsBefore};
 ghost use Rattle.plain.specs.Given.{parametersIn, offerIn};
-ghost use Rattle.lent.specs.inner.Drafts.{rowsWhere, draftBy, draftOf, testedRow, keptRow, repeatedIn};
+ghost use Rattle.lent.specs.inner.Drafts.{rowsWhere, draftBy, draftOf, stepOf, testedRow, keptRow, repeatedIn};
 
 // A book that is to be written: the first fault found so far; how many rows are to be tested or put, which are none where it is
-// refused before its rows are looked at, and where a row is refused are those before it; the offer of the row before.
+// refused before its rows are looked at, and where a row is refused are those before it; what the next row is tested against.
 pub struct Draft {
     pub fault: Verdict,
     pub rows: usize,
@@ -86,22 +87,54 @@ fn rows_before(fault: Verdict, rows: usize) -> usize
     }
 }
 
+// What the next row is tested against: the number, the price and the step of the row before it. Of the rest nothing is kept.
+fn step_of(resource: u32, price: Value, step: u32) -> Offer
+    ensures { λ r. ⌜ r ≡ stepOf resource price step ⌝ }
+{
+    Offer {
+        resource,
+        seller: 0,
+        price,
+        quantity: 0,
+        block: Value::Missing,
+        stamp: 0,
+        step,
+    }
+}
+
+// Tests row i. Its offer is made only where its numbers do not show that it passes.
+fn tested(d: Draft, edition: u32, i: usize, row: OzpRow) -> Draft
+    requires { ⌜ i < 600 ⌝ }
+    ensures { λ r. ⌜ r ≡ testedRow edition d i (offerIn row) ⌝ }
+{
+    if passes_alone(row) {
+        let cents = row.price.number;
+        return Draft {
+            fault: Verdict::Passed,
+            rows: d.rows,
+            before: step_of(row.resource, Value::Given(cents), row.step),
+        };
+    }
+    let o = offer_in(row);
+    let before = d.before;
+    let price = o.price;
+    let fault = row_fault(edition, before, o, i as u32);
+    Draft {
+        fault,
+        rows: rows_before(fault, d.rows),
+        before: step_of(o.resource, price, o.step),
+    }
+}
+
 // Tests row i, and keeps its resource number in the first half of what is kept and its step in the second.
 pub fn test_row(d: Draft, edition: u32, i: usize, row: OzpRow, kept: &mut [u32]) -> Draft
     requires { ⌜ (i < length (now kept) / 2) × (i < 600) ⌝ }
     ensures { λ r. ⌜ (r ≡ testedRow edition d i (offerIn row)) × (now (kept .exit) ≡ keptRow (now (kept .entry)) i (offerIn row)) ⌝ }
 {
-    let o = offer_in(row);
     let half = kept.len() / 2;
-    kept[i] = o.resource;
-    kept[half + i] = o.step;
-    let before = d.before;
-    let fault = row_fault(edition, before, o, i as u32);
-    Draft {
-        fault,
-        rows: rows_before(fault, d.rows),
-        before: o,
-    }
+    kept[i] = row.resource;
+    kept[half + i] = row.step;
+    tested(d, edition, i, row)
 }
 
 // The first fault of a book whose rows are tested for 7 and 10: a repeat among the rows before the one refused comes first.

@@ -7,19 +7,28 @@ use values::Value;
 use values::head::Parameters;
 use values::place::Offer;
 ghost use mathlib.Core.Path.{_≡_};
+ghost use mathlib.Core.Bool.{cond};
+ghost use lib.Dec.{eqb};
+ghost use Rattle.plain.specs.Structs.{noValue};
 ghost use Rattle.plain.specs.Given.{valueIn, parametersIn, offerIn};
 
-// A value by its kind. One of no kind that a value has is given as all ones, which no range admits.
+// The number of a value that is given, and all ones where its kind is another: no range admits them.
+fn number_in(v: OzpValue) -> u32
+    ensures { λ r. ⌜ r ≡ cond (eqb (v .kind) 1) (v .number) noValue ⌝ }
+{
+    if v.kind == 1 { v.number } else { NO_VALUE }
+}
+
+// A value by its kind. Its number is chosen before its kind is told, so that a row has no branch for it.
 fn value_in(v: OzpValue) -> Value
     ensures { λ r. ⌜ r ≡ valueIn v ⌝ }
 {
-    if v.kind == 1 {
-        return Value::Given(v.number);
-    }
+    let number = number_in(v);
     if v.kind == 4 {
-        return Value::Missing;
+        Value::Missing
+    } else {
+        Value::Given(number)
     }
-    Value::Given(NO_VALUE)
 }
 
 // A row, value by value.

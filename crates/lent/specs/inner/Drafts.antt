@@ -11,6 +11,8 @@ use lib.Dec.{ltb}
 use lib.ListN.{length, getD, set}
 use Rattle.values.specs.Contents.{noOffer, offerAt}
 use Rattle.values.specs.Refusals.{andThen, repeatedResource}
+use Rattle.values.specs.declared.Value.{Value}
+use Rattle.values.specs.declared.Value.the-variants.{Missing}
 use Rattle.values.specs.declared.Verdict.{Verdict}
 use Rattle.values.specs.declared.Verdict.the-variants.{Passed, Refused}
 use Rattle.values.specs.declared.head.Parameters.{Parameters}
@@ -32,11 +34,15 @@ draftBy fault rows before = record { fault = fault; rows = rowsWhere fault rows;
 unfoldable pub draftOf : ℕ → Parameters → ℕ → Draft
 draftOf edition p rows = draftBy (openingFault edition p rows) rows noOffer
 
+-- what the next row is tested against: the number, the price and the step of the row before it
+abbrev pub stepOf : ℕ → Value → ℕ → Offer
+stepOf resource price step = record { resource = resource; seller = 0; price = price; quantity = 0; block = Missing; stamp = 0; step = step }
+
 -- row i tested: where it is refused, the rows before it are left
 unfoldable pub testedRow : ℕ → Draft → ℕ → Offer → Draft
 testedRow edition d i o =
     let fault = rowFault false edition (d .before) o i in
-    record { fault = fault; rows = rowsBefore fault (d .rows); before = o }
+    record { fault = fault; rows = rowsBefore fault (d .rows); before = stepOf (o .resource) (o .price) (o .step) }
 
 -- its resource number in the first half of what is kept, and its step in the second
 unfoldable pub keptRow : List ℕ → ℕ → Offer → List ℕ
