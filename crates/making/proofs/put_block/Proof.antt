@@ -46,15 +46,16 @@ same-length c = search needs
 
 returns : tie.Need-returns
 returns c =
-    let letters = c .before .before .before .before .before .before .before .before .before .before .before .before .before .before .before .before .before .before .before .before .before .before in
+    let sealed = c .before .before in
+    let unused = sealed .before .before .before .before in
+    let opened = unused .before .before .before .before in
+    let count = opened .before .before .before .before in
+    let number = count .before .before .before .before in
+    let letters = number .before .before .before .before in
     let s = letters .before .before .before .before in
     put-block (s .args .b .now) (s .args .k) (s .args .here) (s .pre .0)
-    (letters .put-letters .ensures)
-    (c .before .before .before .before .before .before .before .before .before .before .before .before .before .before .before .before .before .before .put-u16 .ensures)
-    (c .before .before .before .before .before .before .before .before .before .before .before .before .before .before .put-u162 .ensures)
-    (c .before .before .before .before .before .before .before .before .before .before .put-zeros .ensures)
-    (c .before .before .before .before .before .before .put-unused .ensures)
-    (c .before .before .seal .ensures)
+    (letters .put-letters .ensures) (number .put-u16 .ensures) (count .put-u162 .ensures) (opened .put-zeros .ensures) (unused .put-unused .ensures)
+    (sealed .seal .ensures)
 
 pub put-block-spec : {M : Type 1} → statement M
 put-block-spec =

@@ -27,9 +27,12 @@ same-length c = search needs
 returns : tie.Need-returns
 unfolding bookMade
 returns c =
-    let a = c .before .before .before .before .before .before .before .before .before .before .before .before .before .args in
-    c .before .before .put-blocks .ensures
-    ∙ ap (λ (l : List ℕ). blocksMade l (a .rows) (blocksFor (a .rows))) (c .before .before .before .before .before .before .seal .ensures ∙ ap (λ (l : List ℕ). sealedAt l 0) (c .before .before .before .before .before .before .before .before .before .before .put-opening .ensures))
+    let blocks = c .before .before in
+    let sealed = blocks .before .before .before .before in
+    let opened = sealed .before .before .before .before in
+    let a = opened .before .before .before .args in
+    blocks .put-blocks .ensures
+    ∙ ap (λ (l : List ℕ). blocksMade l (a .rows) (blocksFor (a .rows))) (sealed .seal .ensures ∙ ap (λ (l : List ℕ). sealedAt l 0) (opened .put-opening .ensures))
 
 pub put-book-spec : {M : Type 1} → statement M
 put-book-spec =
