@@ -20,7 +20,7 @@ use Rattle.plain.specs.Given.{valueIn, offerIn}
 use Rattle.plain.specs.declared.structs.OzpValue.{OzpValue}
 use Rattle.plain.specs.declared.structs.OzpRow.{OzpRow}
 use Rattle.lent.specs.inner.Alone.{pricePasses, blockPasses, passesAlone}
-use Rattle.lent.specs.inner.Drafts.{stepOf, testedRow}
+use Rattle.lent.specs.inner.Drafts.{offerBefore, testedRow}
 use Rattle.lent.specs.declared.tested.Draft.{Draft}
 
 -- a price that passes is given
@@ -84,8 +84,8 @@ module _ (row : OzpRow) (passes : passesAlone row ≡ true) where
 
   -- the draft past it, told from its numbers
   pub alone-tested : (edition : ℕ) (d : Draft) (i : ℕ)
-      → record { fault = Passed; rows = d .rows; before = stepOf (row .resource) (Given (row .price .number)) (row .step) }
+      → record { fault = Passed; rows = d .rows; before = record { resource = row .resource; price = Given (row .price .number); step = row .step } }
       ≡ testedRow edition d i (offerIn row)
   unfolding testedRow
   alone-tested edition d i =
-      rw (alone-passes edition (d .before) i, price-in (row .price) (and-left (pricePasses (row .price)) _ from-price)) refl
+      rw (alone-passes edition (offerBefore (d .before)) i, price-in (row .price) (and-left (pricePasses (row .price)) _ from-price)) refl

@@ -24,8 +24,8 @@ slice-write-kept-2 c =
     let a = c .before .args in
     rw (length-set (a .kept .now) (a .i) (a .row .resource)) (omega (arith, c .before .pre .0))
 
-tested-requires : tie.Need-tested-requires
-tested-requires c κs = search needs
+past-row-requires : tie.Need-past-row-requires
+past-row-requires c κs = search needs
 
 same-length : tie.Need-same-length
 same-length c = search needs
@@ -43,6 +43,6 @@ test-row-spec =
     add-kept
     mul-kept-2
     slice-write-kept-2
-    tested-requires
+    past-row-requires
     same-length
     returns)
