@@ -1,40 +1,42 @@
 -- `put_prices` puts a form that shows its numbers.
 -- Assumes nothing.
+use mathlib.Core.Path.{refl}
 use Rattle.lines.specs.Points.{pricesNumbers}
 use Rattle.wording.proofs.Showing.{showing}
+use mir.Facts.{fits-32-64}
 use borrow.Author.Needs.{needs}
 use Rattle.lines.proofs.points.put_prices.Statement.{statement}
 use Rattle.lines.proofs.points.put_prices.Tie as tie
 
 by-margin-requires : tie.Need-by-margin-requires
-by-margin-requires c κs = search needs
+by-margin-requires c κs = tt
 
 weights-of-requires : tie.Need-weights-of-requires
-weights-of-requires c κs = search needs
+weights-of-requires c κs = tt
 
 number-held-requires : tie.Need-number-held-requires
-number-held-requires c κs = search needs
+number-held-requires c κs = tt
 
 number-held-requires-2 : tie.Need-number-held-requires-2
-number-held-requires-2 c κs = search needs
+number-held-requires-2 c κs = tt
 
 number-held-requires-3 : tie.Need-number-held-requires-3
-number-held-requires-3 c κs = search needs
+number-held-requires-3 c κs = tt
 
 excess-requires : tie.Need-excess-requires
-excess-requires c κs = search needs
+excess-requires c κs = tt
 
 cast-left : tie.Need-cast-left
-cast-left c = search needs
+cast-left c = fits-32-64 (record { fits = c .excess .ok })
 
 slice-aggregate-put-form : tie.Need-slice-aggregate-put-form
-slice-aggregate-put-form c = search needs
+slice-aggregate-put-form c = refl
 
 cast-t21 : tie.Need-cast-t21
-cast-t21 c = search needs
+cast-t21 c = tt
 
 cast-t22 : tie.Need-cast-t22
-cast-t22 c = search needs
+cast-t22 c = tt
 
 first-cents-requires : tie.Need-first-cents-requires
 first-cents-requires c κs = search needs
@@ -49,13 +51,13 @@ cast-t26 : tie.Need-cast-t26
 cast-t26 c = search needs
 
 slice-aggregate-put-form-2 : tie.Need-slice-aggregate-put-form-2
-slice-aggregate-put-form-2 c = search needs
+slice-aggregate-put-form-2 c = refl
 
 put-form-requires : tie.Need-put-form-requires
-put-form-requires c κs = search needs
+put-form-requires c κs = tt
 
 same-length : tie.Need-same-length
-same-length c = search needs
+same-length c = c .before .before .put-form .kept .0
 
 returns : tie.Need-returns
 unfolding pricesNumbers

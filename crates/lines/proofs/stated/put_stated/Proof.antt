@@ -1,46 +1,47 @@
 -- `put_stated` puts a form that shows its numbers.
 -- Assumes nothing.
+use mathlib.Core.Path.{refl}
 use Rattle.lines.specs.Stated.{statedNumbers}
 use Rattle.wording.proofs.Showing.{showing}
-use borrow.Author.Needs.{needs}
+use mir.Facts.{fits-32-64}
 use Rattle.lines.proofs.stated.put_stated.Statement.{statement}
 use Rattle.lines.proofs.stated.put_stated.Tie as tie
 
 yearly-requires : tie.Need-yearly-requires
-yearly-requires c κs = search needs
+yearly-requires c κs = tt
 
 yearly-requires-2 : tie.Need-yearly-requires-2
-yearly-requires-2 c κs = search needs
+yearly-requires-2 c κs = tt
 
 valued-requires : tie.Need-valued-requires
-valued-requires c κs = search needs
+valued-requires c κs = tt
 
 valued-requires-2 : tie.Need-valued-requires-2
-valued-requires-2 c κs = search needs
+valued-requires-2 c κs = tt
 
 by-margin-requires : tie.Need-by-margin-requires
-by-margin-requires c κs = search needs
+by-margin-requires c κs = tt
 
 margined-requires : tie.Need-margined-requires
-margined-requires c κs = search needs
+margined-requires c κs = tt
 
 slice-aggregate-put-form : tie.Need-slice-aggregate-put-form
-slice-aggregate-put-form c = search needs
+slice-aggregate-put-form c = refl
 
 cast-t23 : tie.Need-cast-t23
-cast-t23 c = search needs
+cast-t23 c = tt
 
 cast-t24 : tie.Need-cast-t24
-cast-t24 c = search needs
+cast-t24 c = fits-32-64 (c .struct-known .given .0)
 
 slice-aggregate-put-form-2 : tie.Need-slice-aggregate-put-form-2
-slice-aggregate-put-form-2 c = search needs
+slice-aggregate-put-form-2 c = refl
 
 put-form-requires : tie.Need-put-form-requires
-put-form-requires c κs = search needs
+put-form-requires c κs = tt
 
 same-length : tie.Need-same-length
-same-length c = search needs
+same-length c = c .before .before .put-form .kept .0
 
 returns : tie.Need-returns
 unfolding statedNumbers

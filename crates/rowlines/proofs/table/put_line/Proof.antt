@@ -1,59 +1,61 @@
 -- `put_line` puts a form that shows its numbers; a product of two numbers of 32 bits fits 64.
 -- Assumes nothing.
+use mathlib.Core.Path.{refl}
 use Rattle.laws.proofs.Products.{product-below}
 use Rattle.rowlines.specs.Table.{lineNumbers}
 use Rattle.wording.proofs.Showing.{showing}
+use mir.Facts.{fits-32-64}
 use borrow.Author.Needs.{needs}
 use Rattle.rowlines.proofs.table.put_line.Statement.{statement}
 use Rattle.rowlines.proofs.table.put_line.Tie as tie
 
 cast-exact : tie.Need-cast-exact
-cast-exact c = search needs
+cast-exact c = fits-32-64 (c .struct-known .given .1 .1 .1 .0)
 
 mul-exact : tie.Need-mul-exact
-mul-exact c = record { fits = product-below 32 (search needs) (search needs) }
+mul-exact c = record { fits = product-below 32 (c .struct-known .given .1 .1 .1 .0 .fits) (c .before .before .fits .amount .fits) }
 
 mul-taken : tie.Need-mul-taken
-mul-taken c = record { fits = product-below 32 (search needs) (search needs) }
+mul-taken c = record { fits = product-below 32 (c .before .before .fits .cleared .fits) (c .before .before .fits .sum .fits) }
 
 slice-aggregate-put-form : tie.Need-slice-aggregate-put-form
-slice-aggregate-put-form c = search needs
+slice-aggregate-put-form c = refl
 
 cast-t15 : tie.Need-cast-t15
-cast-t15 c = search needs
+cast-t15 c = tt
 
 cast-t22 : tie.Need-cast-t22
-cast-t22 c = search needs
+cast-t22 c = fits-32-64 (c .struct-known3 .given .0)
 
 cast-t23 : tie.Need-cast-t23
-cast-t23 c = search needs
+cast-t23 c = fits-32-64 (c .struct-known4 .given .1 .1 .1 .1 .1 .1 .0)
 
 cast-t24 : tie.Need-cast-t24
-cast-t24 c = search needs
+cast-t24 c = fits-32-64 (c .struct-known5 .given .1 .0)
 
 cast-t28 : tie.Need-cast-t28
-cast-t28 c = search needs
+cast-t28 c = tt
 
 number-held-requires : tie.Need-number-held-requires
-number-held-requires c κs = search needs
+number-held-requires c κs = tt
 
 cast-t30 : tie.Need-cast-t30
-cast-t30 c = search needs
+cast-t30 c = fits-32-64 (record { fits = c .number-held .ok })
 
 cast-t31 : tie.Need-cast-t31
-cast-t31 c = search needs
+cast-t31 c = fits-32-64 (c .struct-known8 .given .1 .1 .1 .0)
 
 line-word-requires : tie.Need-line-word-requires
-line-word-requires c κs = search needs
+line-word-requires c κs = tt
 
 slice-aggregate-put-form-2 : tie.Need-slice-aggregate-put-form-2
-slice-aggregate-put-form-2 c = search needs
+slice-aggregate-put-form-2 c = refl
 
 put-form-requires : tie.Need-put-form-requires
-put-form-requires c κs = search needs
+put-form-requires c κs = tt
 
 same-length : tie.Need-same-length
-same-length c = search needs
+same-length c = c .before .before .put-form .kept .0
 
 returns : tie.Need-returns
 unfolding lineNumbers
