@@ -4,7 +4,7 @@ use Prim.Native.Nat.{ℕ}
 use mathlib.Core.Path.{_≡_, refl}
 use mathlib.Core.Bool.{Bool, true, false, cond}
 use lib.Dec.{eqb}
-use borrow.Author.Tests.{eq-eqb, ne-eqb}
+use borrow.Author.Tests.{ne-eqb}
 use Rattle.values.specs.declared.Value.{Value}
 use Rattle.values.specs.declared.Value.the-variants.{Given, Missing}
 use Rattle.plain.specs.Structs.{noValue}
@@ -17,11 +17,20 @@ given-cond true x y = refl
 given-cond false x y = refl
 
 module _ (v : OzpValue) where
-  -- missing; given, with the number of a kind that is given or with all ones
+  -- given, missing, and of neither kind
+  pub value-given : v .kind ≡ 1 → Given (v .number) ≡ valueIn v
+  unfolding valueIn
+  value-given e = rw e refl
+
   pub value-missing : v .kind ≡ 4 → Missing ≡ valueIn v
   unfolding valueIn
   value-missing e = rw e refl
 
-  pub value-given : (v .kind ≡ 4 → ⊥) → Given (cond (eqb (v .kind) 1) (v .number) noValue) ≡ valueIn v
+  pub value-neither : (v .kind ≡ 1 → ⊥) → (v .kind ≡ 4 → ⊥) → Given noValue ≡ valueIn v
   unfolding valueIn
-  value-given n = rw (ne-eqb (v .kind) 4 n) (given-cond (eqb (v .kind) 1) (v .number) noValue)
+  value-neither n m = rw (ne-eqb (v .kind) 1 n, ne-eqb (v .kind) 4 m) refl
+
+  -- not missing, with the number that is chosen
+  pub value-chosen : (v .kind ≡ 4 → ⊥) → Given (cond (eqb (v .kind) 1) (v .number) noValue) ≡ valueIn v
+  unfolding valueIn
+  value-chosen n = rw (ne-eqb (v .kind) 4 n) (given-cond (eqb (v .kind) 1) (v .number) noValue)

@@ -19,24 +19,38 @@ fn number_in(v: OzpValue) -> u32
     if v.kind == 1 { v.number } else { NO_VALUE }
 }
 
-// A value by its kind. Its number is chosen before its kind is told, so that a row has no branch for it.
-fn value_in(v: OzpValue) -> Value
+// A value of a row by its kind. Its number is chosen before its kind is told, so that a row has no branch for it.
+fn row_value(v: OzpValue) -> Value
     ensures { λ r. ⌜ r ≡ valueIn v ⌝ }
 {
     let number = number_in(v);
-    if v.kind == 4 {
-        Value::Missing
-    } else {
+    if v.kind != 4 {
         Value::Given(number)
+    } else {
+        Value::Missing
     }
+}
+
+// A value of the parameters by its kind. Its kind is told first: its caller has only just put the two, and who reads both at once waits
+// for both to be stored.
+fn value_in(v: OzpValue) -> Value
+    ensures { λ r. ⌜ r ≡ valueIn v ⌝ }
+{
+    if v.kind == 1 {
+        return Value::Given(v.number);
+    }
+    if v.kind == 4 {
+        return Value::Missing;
+    }
+    Value::Given(NO_VALUE)
 }
 
 // A row, value by value.
 pub fn offer_in(row: OzpRow) -> Offer
     ensures { λ r. ⌜ r ≡ offerIn row ⌝ }
 {
-    let price = value_in(row.price);
-    let block = value_in(row.block);
+    let price = row_value(row.price);
+    let block = row_value(row.block);
     Offer {
         resource: row.resource,
         seller: row.seller,
