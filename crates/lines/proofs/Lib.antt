@@ -1,3 +1,4 @@
 pub mod Weights
 pub mod ClearingDecided
 mod Stating
+mod CurvePoints
