@@ -2,3 +2,4 @@ pub mod Weights
 pub mod ClearingDecided
 mod Stating
 mod CurvePoints
+mod Answered

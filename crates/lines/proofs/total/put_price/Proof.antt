@@ -1,7 +1,7 @@
 -- `put_price` puts a form that shows its numbers.
 -- Assumes nothing.
 use mathlib.Core.Path.{refl}
-use Rattle.lines.specs.Total.{priceNumbers}
+use Rattle.lines.proofs.Answered.{price-are}
 use Rattle.wording.proofs.Showing.{showing}
 use borrow.Author.Needs.{needs}
 use Rattle.lines.proofs.total.put_price.Statement.{statement}
@@ -41,17 +41,12 @@ same-length : tie.Need-same-length
 same-length c = c .before .before .put-form .kept .0
 
 returns : tie.Need-returns
-unfolding priceNumbers
 returns c =
-    let last = c .before .before .before .before in
+    let set = c .before .before .before .before in
+    let more = set .before .before .before in
+    let sets = more .before .before .before .before in
     showing _ _ (c .before .before .put-form .ensures)
-    (simp (
-      last .either2 .ensures,
-      last .before .before .before .either .ensures,
-      last .before .before .before .before .before .before .before .setter .ensures,
-      last .before .before .before .before .before .before .before .before .before .before .priced .ensures .words,
-      last .before .before .before .before .before .before .before .before .before .before .priced .ensures .shows,
-    ))
+    (price-are _ _ _ _ _ _ (sets .before .before .before .priced .ensures) (sets .setter .ensures) (more .either .ensures) (set .either2 .ensures))
 
 pub put-price-spec : {M : Type 1} → statement M
 put-price-spec =
