@@ -4,7 +4,7 @@ use mathlib.Core.Path.{refl}
 use Rattle.lines.proofs.CurvePoints.{prices-are}
 use Rattle.wording.proofs.Showing.{showing}
 use mir.Facts.{fits-32-64}
-use borrow.Author.Needs.{needs}
+use mir.Facts.{fits-32-64}
 use Rattle.lines.proofs.points.put_prices.Statement.{statement}
 use Rattle.lines.proofs.points.put_prices.Tie as tie
 
@@ -42,13 +42,13 @@ first-cents-requires : tie.Need-first-cents-requires
 first-cents-requires c κs = c .before .before .before .before .before .before .weights-of .ensures .first-most
 
 cast-t24 : tie.Need-cast-t24
-cast-t24 c = search needs
+cast-t24 c = fits-32-64 (c .struct-known .given .0 .0)
 
 net-cents-requires : tie.Need-net-cents-requires
 net-cents-requires c κs = c .before .before .before .before .before .before .before .before .weights-of .ensures .second-most
 
 cast-t26 : tie.Need-cast-t26
-cast-t26 c = search needs
+cast-t26 c = fits-32-64 (c .struct-known2 .given .1 .0 .0)
 
 slice-aggregate-put-form-2 : tie.Need-slice-aggregate-put-form-2
 slice-aggregate-put-form-2 c = refl

@@ -3,7 +3,7 @@
 use mathlib.Core.Path.{refl}
 use Rattle.lines.proofs.Answered.{price-are}
 use Rattle.wording.proofs.Showing.{showing}
-use borrow.Author.Needs.{needs}
+use mir.Facts.{fits-32-64}
 use Rattle.lines.proofs.total.put_price.Statement.{statement}
 use Rattle.lines.proofs.total.put_price.Tie as tie
 
@@ -23,10 +23,10 @@ either-requires : tie.Need-either-requires
 either-requires c κs = tt
 
 cast-t17 : tie.Need-cast-t17
-cast-t17 c = search needs
+cast-t17 c = fits-32-64 (c .struct-known4 .given .1 .0 .1 .0)
 
 cast-t18 : tie.Need-cast-t18
-cast-t18 c = search needs
+cast-t18 c = fits-32-64 (c .struct-known5 .given .1 .0 .1 .1 .1 .1 .0)
 
 either-requires-2 : tie.Need-either-requires-2
 either-requires-2 c κs = tt
