@@ -1,10 +1,10 @@
 -- `put_prices` puts a form that shows its numbers.
 -- Assumes nothing.
 use mathlib.Core.Path.{refl}
-use Rattle.lines.specs.Points.{pricesNumbers}
+use Rattle.lines.proofs.CurvePoints.{prices-are}
 use Rattle.wording.proofs.Showing.{showing}
 use mir.Facts.{fits-32-64}
-use borrow.Author.Needs.{needs}
+use mir.Facts.{fits-32-64}
 use Rattle.lines.proofs.points.put_prices.Statement.{statement}
 use Rattle.lines.proofs.points.put_prices.Tie as tie
 
@@ -39,16 +39,16 @@ cast-t22 : tie.Need-cast-t22
 cast-t22 c = tt
 
 first-cents-requires : tie.Need-first-cents-requires
-first-cents-requires c κs = search needs
+first-cents-requires c κs = c .before .before .before .before .before .before .weights-of .ensures .first-most
 
 cast-t24 : tie.Need-cast-t24
-cast-t24 c = search needs
+cast-t24 c = fits-32-64 (c .struct-known .given .0 .0)
 
 net-cents-requires : tie.Need-net-cents-requires
-net-cents-requires c κs = search needs
+net-cents-requires c κs = c .before .before .before .before .before .before .before .before .weights-of .ensures .second-most
 
 cast-t26 : tie.Need-cast-t26
-cast-t26 c = search needs
+cast-t26 c = fits-32-64 (c .struct-known2 .given .1 .0 .0)
 
 slice-aggregate-put-form-2 : tie.Need-slice-aggregate-put-form-2
 slice-aggregate-put-form-2 c = refl
@@ -60,20 +60,17 @@ same-length : tie.Need-same-length
 same-length c = c .before .before .put-form .kept .0
 
 returns : tie.Need-returns
-unfolding pricesNumbers
 returns c =
-    let last = c .before .before .before .before .before in
+    let second = c .before .before .before .before .before in
+    let left = second .before .before .before .before .before in
+    let outage = left .before in
+    let offset = outage .before in
+    let cost = offset .before in
+    let weights = cost .before in
     showing _ _ (c .before .before .put-form .ensures)
-    (simp (
-      last .net-cents .ensures,
-      last .before .before .first-cents .ensures,
-      last .before .before .before .before .before .excess .ensures,
-      last .before .before .before .before .before .before .number-held3 .ensures,
-      last .before .before .before .before .before .before .before .number-held2 .ensures,
-      last .before .before .before .before .before .before .before .before .number-held .ensures,
-      last .before .before .before .before .before .before .before .before .before .weights-of .ensures .same,
-      last .before .before .before .before .before .before .before .before .before .before .by-margin .ensures,
-    ))
+    (prices-are _ _ _ _ (weights .before .by-margin .ensures) (weights .weights-of .ensures .same) _ _ _ _ _ _
+    (cost .number-held .ensures) (offset .number-held2 .ensures) (outage .number-held3 .ensures) (left .excess .ensures)
+    (second .before .before .first-cents .ensures) (second .net-cents .ensures))
 
 pub put-prices-spec : {M : Type 1} → statement M
 put-prices-spec =

@@ -1,7 +1,7 @@
 -- `put_quantities` puts a form that shows its numbers.
 -- Assumes nothing.
 use mathlib.Core.Path.{refl}
-use Rattle.lines.specs.Points.{quantitiesNumbers}
+use Rattle.lines.proofs.CurvePoints.{quantities-are}
 use Rattle.wording.proofs.Showing.{showing}
 use mir.Facts.{fits-32-64}
 use borrow.Author.Needs.{needs}
@@ -63,16 +63,12 @@ same-length : tie.Need-same-length
 same-length c = c .before .before .put-form .kept .0
 
 returns : tie.Need-returns
-unfolding quantitiesNumbers
 returns c =
-    let last = c .before .before .before .before .before .before .before .before .before .before .before .before in
+    let whole = c .before .before .before .before .before .before .before .before .before .before .before .before in
+    let weights = whole .before .before in
     showing _ _ (c .before .before .put-form .ensures)
-    (simp (
-      last .whole-of .ensures .same,
-      last .before .number-held .ensures,
-      last .before .before .weights-of .ensures .same,
-      last .before .before .before .by-margin .ensures,
-    ))
+    (quantities-are _ _ _ _ (weights .before .by-margin .ensures) (weights .weights-of .ensures .same) _ _
+    (whole .before .number-held .ensures) (whole .whole-of .ensures .same))
 
 pub put-quantities-spec : {M : Type 1} → statement M
 put-quantities-spec =

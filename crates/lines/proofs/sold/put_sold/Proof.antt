@@ -1,7 +1,7 @@
 -- `put_sold` puts a form that shows its numbers.
 -- Assumes nothing.
 use mathlib.Core.Path.{refl}
-use Rattle.lines.specs.Sold.{soldNumbers}
+use Rattle.lines.proofs.Answered.{sold-are}
 use Rattle.wording.proofs.Showing.{showing}
 use mir.Facts.{fits-32-64}
 use Rattle.lines.proofs.sold.put_sold.Statement.{statement}
@@ -44,20 +44,13 @@ same-length : tie.Need-same-length
 same-length c = c .before .before .put-form .kept .0
 
 returns : tie.Need-returns
-unfolding soldNumbers
 returns c =
-    let last = c .before .before .before .before in
+    let daily = c .before .before .before .before in
+    let total = daily .before .before .before .before in
+    let paid = total .before .before .before in
     showing _ _ (c .before .before .put-form .ensures)
-    (simp (
-      last .either5 .ensures,
-      last .before .either4 .ensures,
-      last .before .before .either3 .ensures,
-      last .before .before .before .before .first-true .ensures,
-      last .before .before .before .before .before .before .before .either2 .ensures,
-      last .before .before .before .before .before .before .before .before .either .ensures,
-      last .before .before .before .before .before .before .before .before .before .before .before .before .priced .ensures .words,
-      last .before .before .before .before .before .before .before .before .before .before .before .before .priced .ensures .shows,
-    ))
+    (sold-are _ _ _ _ _ _ _ _ _ (paid .before .before .before .before .before .priced .ensures) (total .first-true .ensures) (paid .before .either .ensures)
+    (paid .either2 .ensures) (daily .before .before .either3 .ensures) (daily .before .either4 .ensures) (daily .either5 .ensures))
 
 pub put-sold-spec : {M : Type 1} → statement M
 put-sold-spec =

@@ -1,9 +1,9 @@
 -- `put_price` puts a form that shows its numbers.
 -- Assumes nothing.
 use mathlib.Core.Path.{refl}
-use Rattle.lines.specs.Total.{priceNumbers}
+use Rattle.lines.proofs.Answered.{price-are}
 use Rattle.wording.proofs.Showing.{showing}
-use borrow.Author.Needs.{needs}
+use mir.Facts.{fits-32-64}
 use Rattle.lines.proofs.total.put_price.Statement.{statement}
 use Rattle.lines.proofs.total.put_price.Tie as tie
 
@@ -23,10 +23,10 @@ either-requires : tie.Need-either-requires
 either-requires c κs = tt
 
 cast-t17 : tie.Need-cast-t17
-cast-t17 c = search needs
+cast-t17 c = fits-32-64 (c .struct-known4 .given .1 .0 .1 .0)
 
 cast-t18 : tie.Need-cast-t18
-cast-t18 c = search needs
+cast-t18 c = fits-32-64 (c .struct-known5 .given .1 .0 .1 .1 .1 .1 .0)
 
 either-requires-2 : tie.Need-either-requires-2
 either-requires-2 c κs = tt
@@ -41,17 +41,12 @@ same-length : tie.Need-same-length
 same-length c = c .before .before .put-form .kept .0
 
 returns : tie.Need-returns
-unfolding priceNumbers
 returns c =
-    let last = c .before .before .before .before in
+    let set = c .before .before .before .before in
+    let more = set .before .before .before in
+    let sets = more .before .before .before .before in
     showing _ _ (c .before .before .put-form .ensures)
-    (simp (
-      last .either2 .ensures,
-      last .before .before .before .either .ensures,
-      last .before .before .before .before .before .before .before .setter .ensures,
-      last .before .before .before .before .before .before .before .before .before .before .priced .ensures .words,
-      last .before .before .before .before .before .before .before .before .before .before .priced .ensures .shows,
-    ))
+    (price-are _ _ _ _ _ _ (sets .before .before .before .priced .ensures) (sets .setter .ensures) (more .either .ensures) (set .either2 .ensures))
 
 pub put-price-spec : {M : Type 1} → statement M
 put-price-spec =

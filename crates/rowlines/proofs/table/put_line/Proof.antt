@@ -5,45 +5,44 @@ use Rattle.laws.proofs.Products.{product-below}
 use Rattle.rowlines.specs.Table.{lineNumbers}
 use Rattle.wording.proofs.Showing.{showing}
 use mir.Facts.{fits-32-64}
-use borrow.Author.Needs.{needs}
 use Rattle.rowlines.proofs.table.put_line.Statement.{statement}
 use Rattle.rowlines.proofs.table.put_line.Tie as tie
 
-cast-exact : tie.Need-cast-exact
-cast-exact c = fits-32-64 (c .struct-known .given .1 .1 .1 .0)
+cast-resource : tie.Need-cast-resource
+cast-resource c = fits-32-64 (c .struct-known .given .0)
+
+cast-step : tie.Need-cast-step
+cast-step c = fits-32-64 (c .struct-known2 .given .1 .1 .1 .1 .1 .1 .0)
+
+cast-seller : tie.Need-cast-seller
+cast-seller c = fits-32-64 (c .struct-known3 .given .1 .0)
+
+cast-offered : tie.Need-cast-offered
+cast-offered c = fits-32-64 (c .struct-known4 .given .1 .1 .1 .0)
 
 mul-exact : tie.Need-mul-exact
-mul-exact c = record { fits = product-below 32 (c .struct-known .given .1 .1 .1 .0 .fits) (c .before .before .fits .amount .fits) }
+mul-exact c =
+    record { fits = product-below 32 (c .struct-known4 .given .1 .1 .1 .0 .fits) (c .before .before .before .before .before .fits .amount .fits) }
 
 mul-taken : tie.Need-mul-taken
-mul-taken c = record { fits = product-below 32 (c .before .before .fits .cleared .fits) (c .before .before .fits .sum .fits) }
+mul-taken c =
+    let start = c .before .before .before .before .before in
+    record { fits = product-below 32 (start .fits .cleared .fits) (start .fits .sum .fits) }
 
 slice-aggregate-put-form : tie.Need-slice-aggregate-put-form
 slice-aggregate-put-form c = refl
 
-cast-t15 : tie.Need-cast-t15
-cast-t15 c = tt
+cast-t26 : tie.Need-cast-t26
+cast-t26 c = tt
 
-cast-t22 : tie.Need-cast-t22
-cast-t22 c = fits-32-64 (c .struct-known3 .given .0)
-
-cast-t23 : tie.Need-cast-t23
-cast-t23 c = fits-32-64 (c .struct-known4 .given .1 .1 .1 .1 .1 .1 .0)
-
-cast-t24 : tie.Need-cast-t24
-cast-t24 c = fits-32-64 (c .struct-known5 .given .1 .0)
-
-cast-t28 : tie.Need-cast-t28
-cast-t28 c = tt
+cast-t30 : tie.Need-cast-t30
+cast-t30 c = tt
 
 number-held-requires : tie.Need-number-held-requires
 number-held-requires c κs = tt
 
-cast-t30 : tie.Need-cast-t30
-cast-t30 c = fits-32-64 (record { fits = c .number-held .ok })
-
-cast-t31 : tie.Need-cast-t31
-cast-t31 c = fits-32-64 (c .struct-known8 .given .1 .1 .1 .0)
+cast-t32 : tie.Need-cast-t32
+cast-t32 c = fits-32-64 (record { fits = c .number-held .ok })
 
 line-word-requires : tie.Need-line-word-requires
 line-word-requires c κs = tt
@@ -61,25 +60,23 @@ returns : tie.Need-returns
 unfolding lineNumbers
 returns c =
     let last = c .before .before .before .before in
-    showing _ _ (c .before .before .put-form .ensures)
-    (rw (last .before .before .before .number-held .ensures, last .line-word .ensures))
+    showing _ _ (c .before .before .put-form .ensures) (rw (last .before .number-held .ensures, last .line-word .ensures))
 
 pub put-line-spec : {M : Type 1} → statement M
 put-line-spec =
     tie.close
     (tie.spec
-    cast-exact
+    cast-resource
+    cast-step
+    cast-seller
+    cast-offered
     mul-exact
     mul-taken
     slice-aggregate-put-form
-    cast-t15
-    cast-t22
-    cast-t23
-    cast-t24
-    cast-t28
-    number-held-requires
+    cast-t26
     cast-t30
-    cast-t31
+    number-held-requires
+    cast-t32
     line-word-requires
     slice-aggregate-put-form-2
     put-form-requires
