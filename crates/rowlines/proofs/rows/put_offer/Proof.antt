@@ -1,7 +1,7 @@
 -- `put_offer` puts a form that shows its numbers.
 -- Assumes nothing.
 use mathlib.Core.Path.{refl}
-use Rattle.rowlines.specs.Rows.{offerNumbers}
+use Rattle.rowlines.proofs.RowNumbers.{offer-are}
 use Rattle.wording.proofs.Showing.{showing}
 use mir.Facts.{fits-32-64}
 use borrow.Author.Needs.{needs}
@@ -51,11 +51,10 @@ same-length : tie.Need-same-length
 same-length c = c .before .before .put-form .kept .0
 
 returns : tie.Need-returns
-unfolding offerNumbers
 returns c =
-    let last = c .before .before .before .before in
+    let block = c .before .before .before .before in
     showing _ _ (c .before .before .put-form .ensures)
-    (rw (last .before .before .before .before .before .before .before .before .valued .ensures .words, last .before .before .before .before .before .before .before .before .valued .ensures .shows, last .before .given .ensures, last .number-held .ensures))
+    (offer-are _ _ _ _ _ _ (block .before .before .before .before .before .before .before .before .valued .ensures) (block .before .given .ensures) (block .number-held .ensures))
 
 pub put-offer-spec : {M : Type 1} → statement M
 put-offer-spec =

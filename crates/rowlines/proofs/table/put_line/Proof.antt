@@ -2,7 +2,7 @@
 -- Assumes nothing.
 use mathlib.Core.Path.{refl}
 use Rattle.laws.proofs.Products.{product-below}
-use Rattle.rowlines.specs.Table.{lineNumbers}
+use Rattle.rowlines.proofs.RowNumbers.{line-are}
 use Rattle.wording.proofs.Showing.{showing}
 use mir.Facts.{fits-32-64}
 use Rattle.rowlines.proofs.table.put_line.Statement.{statement}
@@ -57,10 +57,10 @@ same-length : tie.Need-same-length
 same-length c = c .before .before .put-form .kept .0
 
 returns : tie.Need-returns
-unfolding lineNumbers
 returns c =
-    let last = c .before .before .before .before in
-    showing _ _ (c .before .before .put-form .ensures) (rw (last .before .number-held .ensures, last .line-word .ensures))
+    let word = c .before .before .before .before in
+    showing _ _ (c .before .before .put-form .ensures)
+    (line-are _ _ _ _ _ _ _ _ _ (word .before .number-held .ensures) (word .line-word .ensures))
 
 pub put-line-spec : {M : Type 1} → statement M
 put-line-spec =
