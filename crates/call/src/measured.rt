@@ -95,6 +95,27 @@ fn clear_many(
     )
 }
 
+// Clears a book whose edition, parameters and number of rows have passed, in columns that are made for as many rows as it has.
+fn clear_opened(
+    book: &[u8],
+    edition: u32,
+    p: Parameters,
+    rows: u32,
+    cleared: &mut [u32],
+    committed: &mut [u32],
+) -> Answer
+    requires { ⌜ Opened (now book) edition p rows ⌝ }
+    ensures { λ r. ⌜ Outcome (now (book .entry)) (now (cleared .entry)) (now (committed .entry)) r (now (cleared .exit)) (now (committed .exit)) ⌝ }
+{
+    if rows == 0 {
+        return Answer::Cleared(clear_none());
+    }
+    if rows <= 15 {
+        return clear_few(book, edition, p, rows, cleared, committed);
+    }
+    clear_many(book, edition, p, rows, cleared, committed)
+}
+
 // An answer, field by field: whoever reads it soon after then finds each field as it was stored, and does not wait for several
 // stores that overlap it.
 fn by_fields(a: Answer) -> Answer
@@ -125,14 +146,6 @@ pub(crate) fn clear_measured(book: &[u8], cleared: &mut [u32], committed: &mut [
     if let Verdict::Refused(number, place) = fault {
         return Answer::Refused(number, place);
     }
-    let edition = head.edition;
     let p = head.parameters;
-    let rows = head.rows;
-    if rows == 0 {
-        return Answer::Cleared(clear_none());
-    }
-    if rows <= 15 {
-        return by_fields(clear_few(book, edition, p, rows, cleared, committed));
-    }
-    by_fields(clear_many(book, edition, p, rows, cleared, committed))
+    by_fields(clear_opened(book, head.edition, p, head.rows, cleared, committed))
 }

@@ -1,17 +1,18 @@
 -- Whether a test passed, as a Boolean, which goes through tests that follow one another.
 --
--- In order: a verdict that passed or not; one test, two, a row of them; tests that pass alike at each place.
+-- In order: a verdict that passed or not; one test, two; what a row of tests found, joined to the next; tests that pass alike at each
+-- place.
 -- Assumes nothing.
 use mathlib.Core.Path.{_≡_, refl, sym, ap, ap₂, _∙_}
 use mathlib.Core.Bool.{Bool, true, false, _&&_, true≢false, false≢true}
-use Prim.Native.Nat.{ℕ, zero, suc, _<_}
+use Prim.Native.Nat.{ℕ, zero, suc, _+_, _<_}
 use native.Mathlib.Omega.{arith}
 use Rattle.laws.specs.Sum.{every}
 use Rattle.laws.proofs.Everys.{every-zero, every-suc}
 use Rattle.values.specs.Refusals.{unless, andThen, first}
 use Rattle.values.specs.declared.Verdict.{Verdict}
 use Rattle.values.specs.declared.Verdict.the-variants.{Passed, Refused}
-use Rattle.values.proofs.Firsts.{first-zero, first-suc}
+use Rattle.values.proofs.Firsts.{first-zero, first-suc, first-add-one}
 
 abbrev pub passes : Verdict → Bool
 passes Passed = true
@@ -33,6 +34,11 @@ passes-andThen (Refused number place) w = refl
 pub andThen-stops : (v w : Verdict) → passes v ≡ false → andThen v w ≡ v
 andThen-stops Passed w e = absurd (true≢false e)
 andThen-stops (Refused number place) w e = refl
+
+-- what was found among the first n tests, joined to the next
+pub first-next : (test : ℕ → Verdict) (n : ℕ) {found last both : Verdict}
+    → found ≡ first test n → last ≡ test n → both ≡ andThen found last → both ≡ first test (n + 1)
+first-next test n f l b = b ∙ ap₂ andThen f l ∙ sym (first-add-one test n)
 
 pub passes-first : (test : ℕ → Verdict) (holds : ℕ → Bool) (n : ℕ)
     → ((i : ℕ) → i < n → passes (test i) ≡ holds i) → passes (first test n) ≡ every holds n

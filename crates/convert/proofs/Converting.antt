@@ -1,10 +1,11 @@
 -- What is done with a book that is converted, by the way that the code takes.
 --
--- In order: a book that is refused; room that is too short; the other book, made in the room.
+-- In order: a book that is refused; room that is too short; the other book, made in the room; what a book that is not refused has.
 -- Assumes nothing.
 use mathlib.Core.Path.{_≡_, refl, sym, ap, _∙_}
 use mathlib.Core.List.{List}
 use Prim.Native.Nat.{ℕ, _≤_, _<_}
+use native.Mathlib.Omega.{arith}
 use lib.Dec.{leb}
 use lib.ListN.{length}
 use borrow.Author.Tests.{le-leb, lt-leb}
@@ -13,8 +14,11 @@ use Rattle.values.specs.Refusals.{unless, shortRoom}
 use Rattle.values.specs.declared.Verdict.the-variants.{Passed, Refused}
 use Rattle.values.proofs.Firsts.{unless-true, unless-false, andThen-next, andThen-refused, andThen-left, andThen-right}
 use Rattle.layout.specs.Read.{contentsOf}
+use Rattle.layout.proofs.Passing.{form-passed-blocks}
 use Rattle.book.specs.Faults.{soundFault}
-use Rattle.making.specs.inner.Made.{blanked}
+use Rattle.book.proofs.Accepted.{sound-form}
+use Rattle.encoding.specs.Numbers.{zeros}
+use Rattle.places.specs.inner.Put.{put}
 use Rattle.convert.specs.Convert.{downFault, converted, convertFault}
 use Rattle.convert.specs.inner.Converts.{ownFault, otherMade}
 use Rattle.convert.proofs.Converted.{converted-length}
@@ -55,16 +59,20 @@ module _ (b room : List ℕ) where
         record { answered = rw fault f; room-holds = rw fault refl }
 
     -- the other book is made in the room
-    pub converted-made : {r : OzpText} {blank room′ : List ℕ} → length b ≤ length room → blank ≡ blanked (length b) room → room′ ≡ otherMade (contentsOf b) blank
+    pub converted-made : {r : OzpText} {cleared room′ : List ℕ} → length b ≤ length room → cleared ≡ put room 0 (zeros 512) → room′ ≡ otherMade (contentsOf b) cleared
         → r ≡ textGiven (length b) → Converted b room r room′
     converted-made l e m f =
         let fault : convertFault b (length room) ≡ Passed = room-decides ∙ unless-true _ shortRoom (le-leb (length b) (length room) l) in
         record {
           answered = rw fault (f ∙ ap textGiven (sym long));
-          room-holds = rw fault (m ∙ ap (otherMade (contentsOf b)) e ∙ other-made b bytes sound down room);
+          room-holds = rw fault (m ∙ ap (otherMade (contentsOf b)) e ∙ other-made b bytes sound down room l);
         }
 
 -- a book that is not refused is sound
 pub own-sound : (b : List ℕ) → ownFault b ≡ Passed → soundFault b ≡ Passed
 unfolding ownFault
 own-sound b own = andThen-left (soundFault b) _ own
+
+-- and has block 0
+pub own-block : (b : List ℕ) → ownFault b ≡ Passed → 512 ≤ length b
+own-block b own = omega (arith, form-passed-blocks b (sound-form b (own-sound b own)))

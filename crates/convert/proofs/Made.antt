@@ -1,9 +1,9 @@
--- The book that converting makes in blanked room is the book in the other edition.
+-- The book that converting makes in room whose first block is cleared is the book in the other edition.
 -- Assumes nothing.
 use mathlib.Core.Path.{_≡_, ap, _∙_}
 use mathlib.Core.Bool.{false}
 use mathlib.Core.List.{List, _++_}
-use Prim.Native.Nat.{ℕ, _<_}
+use Prim.Native.Nat.{ℕ, _≤_, _<_}
 use lib.ListN.{length, drop}
 use Rattle.block.specs.Bytes.{byte}
 use Rattle.values.specs.Contents.{Contents, offerAt}
@@ -15,8 +15,9 @@ use Rattle.limits.specs.Offers.{rowsFault}
 use Rattle.book.specs.Faults.{soundFault}
 use Rattle.book.proofs.Accepted.{sound-form, sound-rows}
 use Rattle.book.proofs.Editions.{rows-any-edition}
-use Rattle.places.specs.inner.Rows.{putRows}
-use Rattle.making.specs.inner.Made.{bytesFor, blanked, bookMade}
+use Rattle.encoding.specs.Numbers.{zeros}
+use Rattle.places.specs.inner.Put.{put}
+use Rattle.making.specs.inner.Made.{bytesFor}
 use Rattle.writer.proofs.Ranges.{rows-within}
 use Rattle.writer.proofs.Books.{room-made}
 use Rattle.convert.specs.Convert.{otherEdition, inOther, downFault, converted}
@@ -41,8 +42,7 @@ module _ (b : List ℕ) (bytes : (i : ℕ) → i < length b → byte b i < 256) 
   pub bytes-own : length b ≡ bytesFor (length (c .offers))
   bytes-own = form-passed-blocks b (sound-form b sound) ∙ ap bytesFor (contents-count b)
 
-  pub other-made : (room : List ℕ) → otherMade c (blanked (length b) room) ≡ converted b ++ drop (length (converted b)) room
+  pub other-made : (room : List ℕ) → length b ≤ length room
+      → otherMade c (put room 0 (zeros 512)) ≡ converted b ++ drop (length (converted b)) room
   unfolding otherMade converted inOther
-  other-made room =
-      ap (λ (k : ℕ). bookMade e (c .parameters) (length (c .offers)) (putRows (blanked k room) e 0 (c .offers))) bytes-own
-      ∙ room-made (inOther c) (rows-within e (c .offers) rows-pass) room
+  other-made room fits = room-made (inOther c) room (rw bytes-own at fits) (rows-within e (c .offers) rows-pass)

@@ -1,12 +1,12 @@
-// A sound book in the other edition, in room that a caller lends. The room is blanked once nothing refuses the book; its rows are put
-// into their places there, in the other edition, and the book is made around them as the writer makes it.
+// A sound book in the other edition, in room that a caller lends. The room's first block is cleared once nothing refuses the book; its
+// rows are put into their places there, in the other edition, and the book is made around them as the writer makes it.
 use block::SIZE;
 use book::soundness;
 use layout::reader::edition;
 use layout::reader::offer_count;
 use layout::reader::row_bytes;
-use making::blank;
 use making::put_book;
+use making::put_zeros;
 use places::place::put_row;
 use plain::structs::OzpText;
 use values::Verdict;
@@ -82,7 +82,7 @@ fn own_fault(book: &[u8]) -> Verdict
     down_fault(book, edition(book), offer_count(book))
 }
 
-// Makes a sound book in the other edition, in room that is blanked as far as the book goes.
+// Makes a sound book in the other edition, in room whose first block is cleared.
 fn put_other(book: &[u8], room: &mut [u8])
     requires { ⌜ (soundFault (now book) ≡ Passed) × (length (now book) ≤ length (now room)) ⌝ }
     ensures { λ _. ⌜ now (room .exit) ≡ otherMade (contentsOf (now (book .entry))) (now (room .entry)) ⌝ }
@@ -105,7 +105,7 @@ pub fn put_converted(book: &[u8], room: &mut [u8]) -> OzpText
     if room.len() < bytes {
         return refused(20, 0);
     }
-    blank(room, bytes);
+    put_zeros(room, 0, SIZE);
     put_other(book, room);
     given(bytes as u64)
 }

@@ -1,1 +1,2 @@
 pub mod RefusalsDecided
+mod Values

@@ -1,3 +1,4 @@
 pub mod Refused
 pub mod Wrong
 pub mod Missing
+pub mod inner

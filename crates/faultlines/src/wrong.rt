@@ -3,12 +3,32 @@ use forms::put_form;
 use limits::offers::step_within;
 use limits::parameters::given_within;
 use limits::parameters::within;
+use values::Value;
 use values::number_held;
 use values::place::Offer;
 use wording::word::either;
 use wording::word::given;
 ghost use Rattle.forms.specs.Shown.{Shown};
 ghost use Rattle.faultlines.specs.Wrong.{valuesNumbers, rulesNumbers};
+ghost use Rattle.faultlines.specs.inner.Ranged.{Ranges};
+
+// A value beside its range, as the numbers that are shown: whether it is given, its number, and 1 where it is out of the range.
+struct Ranged {
+    given: u64,
+    number: u64,
+    out: u64,
+}
+
+// A value that may be left out, beside its range.
+fn beside(low: u32, high: u32, v: Value) -> Ranged
+    ensures { λ r. ⌜ Ranges low high v r ⌝ }
+{
+    Ranged {
+        given: given(v) as u64,
+        number: number_held(v) as u64,
+        out: !given_within(low, high, v) as u64,
+    }
+}
 
 // Puts the values of a row, each with its range, and which are out of it.
 pub fn put_values(room: &mut [u8], at: usize, edition: u32, o: Offer) -> usize
@@ -16,6 +36,11 @@ pub fn put_values(room: &mut [u8], at: usize, edition: u32, o: Offer) -> usize
 {
     let price = o.price;
     let block = o.block;
+    let price = beside(0, 1000000, price);
+    let block = beside(1, o.quantity, block);
+    let resource = o.resource as u64;
+    let seller = o.seller as u64;
+    let step = o.step as u64;
     put_form(
         room,
         at,
@@ -28,21 +53,21 @@ pub fn put_values(room: &mut [u8], at: usize, edition: u32, o: Offer) -> usize
 |    step #, from 1 to 10 <- out of range
 ]",
         &[
-            o.resource as u64,
-            (o.resource < 1) as u64,
-            o.seller as u64,
-            (o.seller < 1) as u64,
-            given(price) as u64,
-            number_held(price) as u64,
-            !given_within(0, 1000000, price) as u64,
+            resource,
+            (resource < 1) as u64,
+            seller,
+            (seller < 1) as u64,
+            price.given,
+            price.number,
+            price.out,
             o.quantity as u64,
             !within(1, 200000, o.quantity) as u64,
-            given(block) as u64,
-            number_held(block) as u64,
-            !given_within(1, o.quantity, block) as u64,
+            block.given,
+            block.number,
+            block.out,
             either(edition == 1, 0, either(step_within(edition, o.step), 1, 2)),
-            o.step as u64,
-            o.step as u64,
+            step,
+            step,
         ],
     )
 }

@@ -19,10 +19,12 @@ use Rattle.values.specs.declared.head.Parameters.{Parameters}
 use Rattle.values.specs.declared.place.Offer.{Offer}
 use Rattle.values.proofs.Firsts.{unless-passed, andThen-left, andThen-right}
 use Rattle.limits.specs.Offers.{rowsFault}
+use Rattle.encoding.specs.Numbers.{zeros}
 use Rattle.encoding.specs.Encode.{encode}
 use Rattle.encoding.proofs.Book.{encode-length}
+use Rattle.places.specs.inner.Put.{put}
 use Rattle.places.specs.inner.Rows.{putRows}
-use Rattle.making.specs.inner.Made.{bytesFor, blanked, bookMade}
+use Rattle.making.specs.inner.Made.{bytesFor, bookMade}
 use Rattle.writer.specs.Writing.{writeFault}
 use Rattle.writer.specs.inner.Opening.{openingFault}
 use Rattle.writer.proofs.Ranges.{rows-within}
@@ -84,7 +86,7 @@ module _ (c : Contents) (rows : ℕ) (many : length (c .offers) ≡ rows) (kept 
           (ap (λ (x : Draft). x .fault) (opened .answered)
           ∙ where-some fault (u .rows) (rw (← ap (λ (x : Draft). x .rows) (opened .answered)) l))
 
-      module _ (room₂ : List ℕ) (put : room₂ ≡ putRows room₁ edition 0 (take (o .rows) offers)) {r : OzpText} {room′ : List ℕ}
+      module _ (room₂ : List ℕ) (stand : room₂ ≡ putRows room₁ edition 0 (take (o .rows) offers)) {r : OzpText} {room′ : List ℕ}
           (closed : Closed edition p o room₂ r room′) where
         -- what the draft that was opened says, by the table
         by-fault : (v : Verdict) → writeFault c (length room) ≡ v → o ≡ draftBy v (u .rows) (t .before)
@@ -94,14 +96,14 @@ module _ (c : Contents) (rows : ℕ) (many : length (c .offers) ≡ rows) (kept 
         unfolding putRows
         wrote-refused number place e =
             let same = by-fault (Refused number place) e in
-            let before : room₁ ≡ room = opened .room-holds ∙ ap (λ (w : Verdict). bufferBy w room (blanked (bytesFor (u .rows)) room)) (same-fault ∙ e) in
+            let before : room₁ ≡ room = opened .room-holds ∙ ap (λ (w : Verdict). bufferBy w room (put room 0 (zeros 512))) (same-fault ∙ e) in
             record {
               answered = rw e (closed .answered ∙ ap (λ (x : Draft). textBy (x .fault) (textGiven (bytesFor (x .rows)))) same);
               room-holds =
                   rw e
                   (closed .room-holds
                   ∙ ap (λ (x : Draft). bufferBy (x .fault) room₂ (bookMade edition p (x .rows) room₂)) same
-                  ∙ put
+                  ∙ stand
                   ∙ ap₂ (λ (x : Draft) (s : List ℕ). putRows s edition 0 (take (x .rows) offers)) same before);
             }
 
@@ -113,10 +115,11 @@ module _ (c : Contents) (rows : ℕ) (many : length (c .offers) ≡ rows) (kept 
             let sound : rowsFault false edition (offerAt offers) rows ≡ Passed = andThen-left _ room-fault (andThen-right (openingFault edition p rows) _ split) in
             let left : u .rows ≡ length offers = ap (λ (v : Verdict). rowsWhere v (t .rows)) (rows-found c rows many kept room t kept′ long tested passed ∙ sound) ∙ rows-left c rows many kept room t kept′ long tested passed sound ∙ sym many in
             let whole : o .rows ≡ length offers = ap (λ (x : Draft). x .rows) same ∙ left in
-            let blank : room₁ ≡ blanked (bytesFor (length offers)) room =
-            opened .room-holds ∙ ap₂ (λ (w : Verdict) (k : ℕ). bufferBy w room (blanked (bytesFor k) room)) (same-fault ∙ e) left in
-            let rows-there : room₂ ≡ putRows (blanked (bytesFor (length offers)) room) edition 0 offers =
-            put ∙ ap₂ (λ (s : List ℕ) (os : List Offer). putRows s edition 0 os) blank (take-all (o .rows) offers (omega (arith, whole))) in
+            let cleared : room₁ ≡ put room 0 (zeros 512) =
+            opened .room-holds ∙ ap (λ (w : Verdict). bufferBy w room (put room 0 (zeros 512))) (same-fault ∙ e) in
+            let rows-there : room₂ ≡ putRows (put room 0 (zeros 512)) edition 0 offers =
+            stand ∙ ap₂ (λ (s : List ℕ) (os : List Offer). putRows s edition 0 os) cleared (take-all (o .rows) offers (omega (arith, whole))) in
+            let fits : bytesFor (length offers) ≤ length room = rw whole at (opened-room (ap (λ (x : Draft). x .fault) same)) in
             record {
               answered =
                   rw e
@@ -127,7 +130,7 @@ module _ (c : Contents) (rows : ℕ) (many : length (c .offers) ≡ rows) (kept 
                   (closed .room-holds
                   ∙ ap (λ (v : Verdict). bufferBy v room₂ (bookMade edition p (o .rows) room₂)) (ap (λ (x : Draft). x .fault) same)
                   ∙ ap₂ (bookMade edition p) whole rows-there
-                  ∙ room-made c (rows-within edition offers (rw many sound)) room);
+                  ∙ room-made c room fits (rows-within edition offers (rw many sound)));
             }
 
         -- Rows that were tested, put and closed in the room are written.

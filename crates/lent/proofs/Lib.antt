@@ -1,4 +1,5 @@
 pub mod Drafts
+pub mod Passing
 pub mod Testing
 pub mod Placing
 pub mod Rooms

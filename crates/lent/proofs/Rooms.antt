@@ -7,7 +7,9 @@ use lib.ListN.{length}
 use borrow.Author.Tests.{le-leb, lt-leb}
 use Rattle.values.specs.declared.Verdict.the-variants.{Passed, Refused}
 use Rattle.values.specs.declared.head.Parameters.{Parameters}
-use Rattle.making.specs.inner.Made.{bytesFor, blanked, bookMade}
+use Rattle.encoding.specs.Numbers.{zeros}
+use Rattle.places.specs.inner.Put.{put}
+use Rattle.making.specs.inner.Made.{bytesFor, bookMade}
 use Rattle.plain.specs.declared.structs.OzpText.{OzpText}
 use Rattle.words.specs.Texts.{textGiven, textRefused}
 use Rattle.lent.specs.inner.Drafts.{draftBy}
@@ -27,11 +29,11 @@ module _ (d : Draft) (room : List ℕ) {r : Draft} where
     unfolding openFault
     opened-short l f = record { answered = rw (passed, lt-leb _ _ l) f; room-holds = rw (passed, lt-leb _ _ l) }
 
-    -- it is blanked
-    pub opened-blank : {room′ : List ℕ} → bytesFor (d .rows) ≤ length room → r ≡ draftBy Passed (d .rows) (d .before)
-        → room′ ≡ blanked (bytesFor (d .rows)) room → Opened d room r room′
+    -- its first block is cleared
+    pub opened-cleared : {room′ : List ℕ} → bytesFor (d .rows) ≤ length room → r ≡ draftBy Passed (d .rows) (d .before)
+        → room′ ≡ put room 0 (zeros 512) → Opened d room r room′
     unfolding openFault
-    opened-blank l f g = record { answered = rw (passed, le-leb _ _ l) f; room-holds = rw (passed, le-leb _ _ l) g }
+    opened-cleared l f g = record { answered = rw (passed, le-leb _ _ l) f; room-holds = rw (passed, le-leb _ _ l) g }
 
 module _ (edition : ℕ) (p : Parameters) (d : Draft) (room : List ℕ) {r : OzpText} where
   pub closed-refused : (number place : ℕ) → d .fault ≡ Refused number place → r ≡ textRefused number place → Closed edition p d room r room

@@ -16,13 +16,19 @@ use Rattle.values.specs.declared.Verdict.{Verdict}
 use Rattle.values.specs.declared.Verdict.the-variants.{Passed, Refused}
 use Rattle.values.specs.declared.place.Offer.{Offer}
 use Rattle.values.proofs.Firsts.{andThen-next, first-zero, first-suc}
-use Rattle.steps.specs.Steps.{stepHolds}
+use Rattle.steps.specs.Steps.{stepFollows, stepHolds}
 use Rattle.limits.specs.Offers.{stepFault}
 use Rattle.limits.specs.inner.Rows.{rowFault, valuesFault, rowsBefore}
 use Rattle.limits.proofs.Tested.{fault-alone}
-use Rattle.lent.specs.inner.Drafts.{testedRow, keptRow, RowsTested}
+use Rattle.lent.specs.inner.Drafts.{beforeOf, offerBefore, testedRow, keptRow, RowsTested}
+use Rattle.lent.specs.declared.tested.Before.{Before}
 use Rattle.lent.specs.declared.tested.Draft.{Draft}
 use Rattle.lent.proofs.Drafts.{refused-within, passed-before, refused-stays}
+
+-- a row is tested against the number, the price and the step of the row before it
+row-step : (edition : ℕ) (before o : Offer) (row : ℕ) → rowFault false edition (offerBefore (beforeOf before)) o row ≡ rowFault false edition before o row
+unfolding rowFault stepFault stepHolds stepFollows
+row-step edition before o row = refl
 
 -- row 0 has none before it
 row-zero : (edition : ℕ) (before other o : Offer) → rowFault false edition before o 0 ≡ rowFault false edition other o 0
@@ -78,7 +84,7 @@ module _ (edition : ℕ) (offers : List Offer) (d : Draft) (kept : List ℕ) whe
     pub within : i ≤ n
     pub fault : draftAt i .fault ≡ andThen (d .fault) (values i)
     pub rows : draftAt i .rows ≡ rowsBefore (values i) n
-    pub before : (j : ℕ) → i ≡ suc j → draftAt i .before ≡ offerAt offers j
+    pub before : (j : ℕ) → i ≡ suc j → draftAt i .before ≡ beforeOf (offerAt offers j)
     pub resources : (row : ℕ) → row < i → getD (keptAt i) row 0 ≡ offerAt offers row .resource
     pub steps : (row : ℕ) → row < i → getD (keptAt i) (half + row) 0 ≡ offerAt offers row .step
 
@@ -99,15 +105,16 @@ module _ (edition : ℕ) (offers : List Offer) (d : Draft) (kept : List ℕ) whe
 
   module _ (room : n ≤ half) (unrefused : 0 < n → d .fault ≡ Passed) (i : ℕ) (t : Tested i) where
     -- the row before the next is the one that was tested last
-    row-own : rowFault false edition (draftAt i .before) (offerAt offers i) i ≡ test i
+    row-own : rowFault false edition (offerBefore (draftAt i .before)) (offerAt offers i) i ≡ test i
     row-own = own i (t .before)
       where
-        own : (k : ℕ) → ((j : ℕ) → k ≡ suc j → draftAt i .before ≡ offerAt offers j)
-            → rowFault false edition (draftAt i .before) (offerAt offers k) k ≡ test k
-        own zero h = row-zero edition (draftAt i .before) (offerAt offers 0) (offerAt offers 0)
+        own : (k : ℕ) → ((j : ℕ) → k ≡ suc j → draftAt i .before ≡ beforeOf (offerAt offers j))
+            → rowFault false edition (offerBefore (draftAt i .before)) (offerAt offers k) k ≡ test k
+        own zero h = row-zero edition (offerBefore (draftAt i .before)) (offerAt offers 0) (offerAt offers 0)
         own (suc j) h =
             let last : suc j - 1 ≡ j = omega arith in
-            ap (λ (o : Offer). rowFault false edition o (offerAt offers (suc j)) (suc j)) (h j refl ∙ ap (offerAt offers) (sym last))
+            ap (λ (b : Before). rowFault false edition (offerBefore b) (offerAt offers (suc j)) (suc j)) (h j refl ∙ ap (λ (k : ℕ). beforeOf (offerAt offers k)) (sym last))
+            ∙ row-step edition (offerAt offers (suc j - 1)) (offerAt offers (suc j)) (suc j)
 
     -- one row more
     pub tested-more : i < draftAt i .rows → Tested (suc i)
@@ -116,7 +123,7 @@ module _ (edition : ℕ) (offers : List Offer) (d : Draft) (kept : List ℕ) whe
         let passed : values i ≡ Passed = passed-before edition offers n i (rw (t .rows) at left) in
         let all : draftAt i .rows ≡ n = t .rows ∙ ap (λ (v : Verdict). rowsBefore v n) passed in
         let inside : i < n = omega (arith, all, left) in
-        let next : values (suc i) ≡ rowFault false edition (draftAt i .before) (offerAt offers i) i =
+        let next : values (suc i) ≡ rowFault false edition (offerBefore (draftAt i .before)) (offerAt offers i) i =
         first-suc test i ∙ andThen-next (first test i) (test i) passed ∙ sym row-own in
         let long = length-kept i in
         let one : List ℕ = set (keptAt i) i (offerAt offers i .resource) in
@@ -126,7 +133,7 @@ module _ (edition : ℕ) (offers : List Offer) (d : Draft) (kept : List ℕ) whe
           within = omega (arith, inside);
           fault = sym next ∙ sym (andThen-next (d .fault) (values (suc i)) (unrefused (omega (arith, inside))));
           rows = ap₂ rowsBefore (sym next) all;
-          before = λ j e. let same : i ≡ j = omega (arith, e) in ap (offerAt offers) same;
+          before = λ j e. let same : i ≡ j = omega (arith, e) in ap (λ (k : ℕ). beforeOf (offerAt offers k)) same;
           resources = λ row l.
               getD-set-other one (length (keptAt i) / 2 + i) row (offerAt offers i .step) 0 (λ e. omega (arith, e, long, room, inside, l))
               ∙ by-equality row i

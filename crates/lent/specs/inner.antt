@@ -1,2 +1,3 @@
 pub mod Drafts
+pub mod Alone
 pub mod Rooms

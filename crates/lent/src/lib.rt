@@ -1,11 +1,14 @@
 // A book of either edition written from plain structs into room that a caller lends. The rows are tested one by one; where nothing
-// refuses them the room is blanked, each row is put into its place of it, and the book is made around them.
+// refuses them the room's first block is cleared, each row is put into its place, and the book is made around them.
+mod alone;
+mod row;
 pub mod tested;
 
 use crate::tested::Draft;
 use crate::tested::drafted;
-use making::blank;
+use block::SIZE;
 use making::bytes_for;
+use making::put_zeros;
 use plain::given::offer_in;
 use plain::given::parameters_in;
 use plain::structs::OzpParameters;
@@ -23,8 +26,8 @@ ghost use Rattle.places.specs.inner.Rows.{putRow};
 ghost use Rattle.plain.specs.Given.{parametersIn, offerIn};
 ghost use Rattle.lent.specs.inner.Rooms.{Opened, Closed};
 
-// The last refusal of a book whose rows are tested: 20. Where nothing refuses it the room is blanked, as far as the book goes, and
-// the rows are to be put.
+// The last refusal of a book whose rows are tested: 20. Where nothing refuses it the first block, in which no row stands, is cleared,
+// and the rows are to be put.
 pub fn open_room(d: Draft, room: &mut [u8]) -> Draft
     requires { ⌜ d .rows ≤ 600 ⌝ }
     ensures { λ r. ⌜ Opened d (now (room .entry)) r (now (room .exit)) ⌝ }
@@ -38,7 +41,7 @@ pub fn open_room(d: Draft, room: &mut [u8]) -> Draft
     if room.len() < bytes {
         return drafted(Verdict::Refused(20, 0), d.rows, before);
     }
-    blank(room, bytes);
+    put_zeros(room, 0, SIZE);
     drafted(Verdict::Passed, d.rows, before)
 }
 

@@ -1,30 +1,31 @@
 // The rows of a book that is to be written, tested one by one before any of them is put.
-use limits::offers::offer_fault;
-use limits::offers::past_fault;
-use plain::given::offer_in;
+use crate::row::past_row;
 use plain::given::parameters_in;
 use plain::structs::OzpParameters;
 use plain::structs::OzpRow;
 use repeats::first_repeat;
-use steps::step_follows;
 use values::Value;
 use values::Verdict;
-use values::place::Offer;
 use writer::opening_fault;
 ghost use mathlib.Core.Path.{_≡_};
-ghost use mathlib.Core.Bool.{false};
 ghost use Prim.Native.Nat.{_+_, _/_, _≤_, _<_};
 ghost use lib.ListN.{length};
-ghost use Rattle.limits.specs.inner.Rows.{rowFault, rowsBefore};
 ghost use Rattle.plain.specs.Given.{parametersIn, offerIn};
 ghost use Rattle.lent.specs.inner.Drafts.{rowsWhere, draftBy, draftOf, testedRow, keptRow, repeatedIn};
 
+// What the next row is tested against: the number, the price and the step of the row before it.
+pub struct Before {
+    pub resource: u32,
+    pub price: Value,
+    pub step: u32,
+}
+
 // A book that is to be written: the first fault found so far; how many rows are to be tested or put, which are none where it is
-// refused before its rows are looked at, and where a row is refused are those before it; the offer of the row before.
+// refused before its rows are looked at, and where a row is refused are those before it; what the next row is tested against.
 pub struct Draft {
     pub fault: Verdict,
     pub rows: usize,
-    pub before: Offer,
+    pub before: Before,
 }
 
 // So many rows where nothing is refused, and else none.
@@ -38,7 +39,7 @@ fn rows_where(fault: Verdict, rows: usize) -> usize
 }
 
 // A draft with this fault, of whose rows none are left where there is one.
-pub(crate) fn drafted(fault: Verdict, rows: usize, before: Offer) -> Draft
+pub(crate) fn drafted(fault: Verdict, rows: usize, before: Before) -> Draft
     ensures { λ r. ⌜ r ≡ draftBy fault rows before ⌝ }
 {
     Draft {
@@ -52,38 +53,13 @@ pub(crate) fn drafted(fault: Verdict, rows: usize, before: Offer) -> Draft
 pub fn begin(edition: u32, parameters: OzpParameters, rows: usize) -> Draft
     ensures { λ r. ⌜ r ≡ draftOf edition (parametersIn parameters) rows ⌝ }
 {
-    let none = Offer {
+    let none = Before {
         resource: 0,
-        seller: 0,
         price: Value::Given(0),
-        quantity: 0,
-        block: Value::Missing,
-        stamp: 0,
         step: 0,
     };
     let fault = opening_fault(edition, parameters_in(parameters), rows);
     drafted(fault, rows, none)
-}
-
-// 7 and 10 of a row, with the offer of the row before it.
-fn row_fault(edition: u32, before: Offer, o: Offer, row: u32) -> Verdict
-    ensures { λ r. ⌜ r ≡ rowFault false edition before o row ⌝ }
-{
-    if o.step == 1 {
-        return offer_fault(false, edition, o, row);
-    }
-    let follows = (0 < row) & step_follows(before, o);
-    past_fault(false, edition, o, follows, row)
-}
-
-// How many rows stand before the one that is refused: all where none is.
-fn rows_before(fault: Verdict, rows: usize) -> usize
-    ensures { λ r. ⌜ r ≡ rowsBefore fault rows ⌝ }
-{
-    match fault {
-        Verdict::Passed => rows,
-        Verdict::Refused(_, row) => row as usize,
-    }
 }
 
 // Tests row i, and keeps its resource number in the first half of what is kept and its step in the second.
@@ -91,17 +67,10 @@ pub fn test_row(d: Draft, edition: u32, i: usize, row: OzpRow, kept: &mut [u32])
     requires { ⌜ (i < length (now kept) / 2) × (i < 600) ⌝ }
     ensures { λ r. ⌜ (r ≡ testedRow edition d i (offerIn row)) × (now (kept .exit) ≡ keptRow (now (kept .entry)) i (offerIn row)) ⌝ }
 {
-    let o = offer_in(row);
     let half = kept.len() / 2;
-    kept[i] = o.resource;
-    kept[half + i] = o.step;
-    let before = d.before;
-    let fault = row_fault(edition, before, o, i as u32);
-    Draft {
-        fault,
-        rows: rows_before(fault, d.rows),
-        before: o,
-    }
+    kept[i] = row.resource;
+    kept[half + i] = row.step;
+    past_row(d, edition, i, row)
 }
 
 // The first fault of a book whose rows are tested for 7 and 10: a repeat among the rows before the one refused comes first.

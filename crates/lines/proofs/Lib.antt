@@ -1,2 +1,5 @@
 pub mod Weights
 pub mod ClearingDecided
+mod Stating
+mod CurvePoints
+mod Answered

@@ -7,10 +7,25 @@ use wording::word::valued;
 use wording::word::yearly;
 ghost use Rattle.forms.specs.Shown.{Shown};
 ghost use Rattle.lines.specs.Stated.{statedNumbers};
+ghost use Rattle.lines.specs.inner.Stated.{States};
 
-// Puts the edition, where offers have steps in it, the parameters and the number of offers.
-pub fn put_stated(room: &mut [u8], at: usize, edition: u32, p: Parameters, offers: u32) -> usize
-    ensures { λ r. ⌜ Shown (now (room .entry)) at (statedNumbers edition p offers) (now (room .exit)) r ⌝ }
+// The parameters that a book states, as the numbers that are shown: for each the words for it and its number.
+struct Stated {
+    cost_word: u64,
+    cost: u64,
+    offset_word: u64,
+    offset: u64,
+    outage_word: u64,
+    outage: u64,
+    requirement_word: u64,
+    requirement: u64,
+    margin_word: u64,
+    margin: u64,
+}
+
+// The words for each parameter, and its number.
+fn told(p: Parameters) -> Stated
+    ensures { λ r. ⌜ States p r ⌝ }
 {
     let cost = p.cost;
     let offset = p.offset;
@@ -22,6 +37,25 @@ pub fn put_stated(room: &mut [u8], at: usize, edition: u32, p: Parameters, offer
     let outage = valued(outage);
     let requirement = valued(requirement);
     let margin = margined(by_margin(p.year), margin);
+    Stated {
+        cost_word: cost.word,
+        cost: cost.number,
+        offset_word: offset.word,
+        offset: offset.number,
+        outage_word: outage.word,
+        outage: outage.number,
+        requirement_word: requirement.word,
+        requirement: requirement.number,
+        margin_word: margin.word,
+        margin: margin.number,
+    }
+}
+
+// Puts the edition, where offers have steps in it, the parameters and the number of offers.
+pub fn put_stated(room: &mut [u8], at: usize, edition: u32, p: Parameters, offers: u32) -> usize
+    ensures { λ r. ⌜ Shown (now (room .entry)) at (statedNumbers edition p offers) (now (room .exit)) r ⌝ }
+{
+    let n = told(p);
     put_form(
         room,
         at,
@@ -41,16 +75,16 @@ pub fn put_stated(room: &mut [u8], at: usize, edition: u32, p: Parameters, offer
         &[
             (edition == 2) as u64,
             p.year as u64,
-            cost.word,
-            cost.number,
-            offset.word,
-            offset.number,
-            outage.word,
-            outage.number,
-            requirement.word,
-            requirement.number,
-            margin.word,
-            margin.number,
+            n.cost_word,
+            n.cost,
+            n.offset_word,
+            n.offset,
+            n.outage_word,
+            n.outage,
+            n.requirement_word,
+            n.requirement,
+            n.margin_word,
+            n.margin,
             offers as u64,
         ],
     )

@@ -15,13 +15,14 @@ use Rattle.values.specs.declared.head.Parameters.{Parameters}
 use Rattle.sections.specs.Section.{rowsHere}
 use Rattle.layout.specs.Layout.{rpmb}
 use Rattle.layout.specs.Form.{ofrs}
-use Rattle.encoding.specs.Numbers.{u16Bytes, valueBytes}
+use Rattle.encoding.specs.Numbers.{u16Bytes, valueBytes, zeros}
 use Rattle.encoding.specs.Encode.{headMarks}
+use Rattle.encoding.proofs.Digits.{length-zeros}
 use Rattle.encoding.proofs.Halves.{u16Bytes-kept}
 use Rattle.places.specs.inner.Put.{put, weighed}
 use Rattle.places.proofs.Puts.{put-next}
 use Rattle.places.proofs.Fields.{Run, run-on, length-u16, length-value, weighed-bit}
-use Rattle.making.specs.inner.Made.{fourValues, opening, sealedAt, blockMade, blocksMade}
+use Rattle.making.specs.inner.Made.{fourValues, opening, sealedAt, unusedAt, blockMade, blocksMade}
 
 -- ---- the marks of block 0
 
@@ -84,20 +85,25 @@ put-opening b edition p rows marks h e e₁ e₂ e₃ e₄ e₅ e₆ e₇ =
     ∙ ap (λ (m : ℕ). rpmb ++ (u16Bytes edition ++ (u16Bytes (p .year) ++ (valueBytes (p .cost) ++ (valueBytes (p .offset)
     ++ (valueBytes (p .outage) ++ (valueBytes (p .requirement) ++ (u16Bytes rows ++ (u16Bytes m ++ valueBytes (p .margin)))))))))) e)
 
-pub put-block : (b : List ℕ) (k here : ℕ) {c₁ c₂ c₃ c₄ : List ℕ} → k * 512 + 512 ≤ length b
+pub put-block : (b : List ℕ) (k here : ℕ) {c₁ c₂ c₃ c₄ c₅ c₆ : List ℕ} → k * 512 + 512 ≤ length b
     → c₁ ≡ put b (k * 512) ofrs
     → c₂ ≡ put c₁ (k * 512 + 4) (u16Bytes k)
     → c₃ ≡ put c₂ (k * 512 + 6) (u16Bytes here)
-    → c₄ ≡ sealedAt c₃ (k * 512)
-    → c₄ ≡ blockMade b k here
+    → c₄ ≡ put c₃ (k * 512 + 8) (zeros 20)
+    → c₅ ≡ unusedAt c₄ (k * 512) here
+    → c₆ ≡ sealedAt c₅ (k * 512)
+    → c₆ ≡ blockMade b k here
 unfolding blockMade
-put-block b k here h e₁ e₂ e₃ e₄ =
+put-block b k here h e₁ e₂ e₃ e₄ e₅ e₆ =
     let r₁ : Run b (k * 512) _ 4 _ = record { made = e₁; long = refl } in
     let r₂ : Run b (k * 512) _ 6 _ = run-on b (k * 512) (u16Bytes k) 2 r₁ (omega arith) (length-u16 k) e₂ in
-    e₄
+    let r₃ : Run b (k * 512) _ 8 _ = run-on b (k * 512) (u16Bytes here) 2 r₂ (omega arith) (length-u16 here) e₃ in
+    e₆
     ∙ ap (λ (l : List ℕ). sealedAt l (k * 512))
-    (run-on b (k * 512) (u16Bytes here) 2 r₂ (omega arith) (length-u16 here) e₃ .made
-    ∙ ap (put b (k * 512)) (append-assoc ofrs (u16Bytes k) (u16Bytes here)))
+    (e₅
+    ∙ ap (λ (l : List ℕ). unusedAt l (k * 512) here)
+    (run-on b (k * 512) (zeros 20) 20 r₃ (omega arith) (length-zeros 20) e₄ .made
+    ∙ ap (put b (k * 512)) (sym (four ofrs (u16Bytes k) (u16Bytes here) (zeros 20)))))
 
 -- one block more
 pub blocks-none : (b : List ℕ) (rows : ℕ) → b ≡ blocksMade b rows 0

@@ -1,3 +1,3 @@
 pub mod Fields
-pub mod Blanks
+pub mod Zeros
 pub mod Decided

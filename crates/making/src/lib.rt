@@ -1,5 +1,5 @@
-// A book made in room that is lent: its bytes blanked first; then, around rows that were put into their places, block 0, what opens
-// each block of rows, and both sums of each block.
+// A book made in room that is lent, around rows that were put into their places: what block 0 says, which was cleared before, what
+// opens each block of rows, zeros in the places that no row has, and both sums of each block.
 use block::SIZE;
 use block::check::check_sums;
 use layout::OFRS;
@@ -8,6 +8,9 @@ use places::bytes::put_letters;
 use places::bytes::put_u16;
 use places::bytes::put_value;
 use places::place::mark_of;
+use sections::PLACE_SIZE;
+use sections::PLACES;
+use sections::PLACES_FROM;
 use sections::section::blocks_for;
 use sections::section::rows_here;
 use values::head::Parameters;
@@ -15,9 +18,10 @@ ghost use mathlib.Core.Path.{_≡_};
 ghost use Prim.Native.Nat.{_+_, _*_, _≤_};
 ghost use lib.ListN.{length};
 ghost use Rattle.sections.specs.Section.{blocksFor};
+ghost use Rattle.encoding.specs.Numbers.{zeros};
 ghost use Rattle.encoding.specs.Encode.{headMarks};
 ghost use Rattle.places.specs.inner.Put.{put};
-ghost use Rattle.making.specs.inner.Made.{bytesFor, blanked, fourValues, opening, sealedAt, blockMade, blocksMade, bookMade};
+ghost use Rattle.making.specs.inner.Made.{bytesFor, fourValues, opening, sealedAt, unusedAt, blockMade, blocksMade, bookMade};
 
 // How many bytes the book of so many rows has.
 pub fn bytes_for(rows: usize) -> usize
@@ -27,14 +31,27 @@ pub fn bytes_for(rows: usize) -> usize
     SIZE * (1 + blocks_for(rows))
 }
 
-// Zeros in the first n bytes.
-pub fn blank(b: &mut [u8], n: usize)
-    requires { ⌜ n ≤ length (now b) ⌝ }
-    ensures { λ _. ⌜ now (b .exit) ≡ blanked n (now (b .entry)) ⌝ }
+// Zeros in n bytes from a place on.
+pub fn put_zeros(b: &mut [u8], at: usize, n: usize)
+    requires { ⌜ at + n ≤ length (now b) ⌝ }
+    ensures { λ _. ⌜ now (b .exit) ≡ put (now (b .entry)) at (zeros n) ⌝ }
 {
     for i in 0..n {
-        b[i] = 0;
+        b[at + i] = 0;
     }
+}
+
+// Zeros in the places behind so many rows of the block that starts at a place. Where all are used there is nothing to do, which is
+// told first.
+fn put_unused(b: &mut [u8], at: usize, here: usize)
+    requires { ⌜ (at + 512 ≤ length (now b)) × (here ≤ 15) ⌝ }
+    ensures { λ _. ⌜ now (b .exit) ≡ unusedAt (now (b .entry)) at here ⌝ }
+{
+    if here == PLACES {
+        return;
+    }
+    let used = here * PLACE_SIZE;
+    put_zeros(b, at + PLACES_FROM + used, PLACES * PLACE_SIZE - used);
 }
 
 // Both sums in the last four bytes of the block that starts at a place.
@@ -102,6 +119,8 @@ fn put_block(b: &mut [u8], k: usize, here: usize)
     put_letters(b, at, &OFRS);
     put_u16(b, at + 4, k as u32);
     put_u16(b, at + 6, here as u32);
+    put_zeros(b, at + 8, 20);
+    put_unused(b, at, here);
     seal(b, at);
 }
 

@@ -9,7 +9,7 @@ use native.Mathlib.Nat.{add-assoc, zero-add}
 use native.Mathlib.Numerals.{add-one}
 use native.Mathlib.Omega.{arith}
 use lib.ListN.{length, getD, set, take, drop, length-append, length-take, length-drop, length-set, List·getD-append}
-use lib.Seq.{set-split, take-at, drop-at, drop-append-add, drop-drop, take-append-add, length-take-le}
+use lib.Seq.{set-split, take-at, drop-at, drop-append-le, drop-append-add, drop-drop, take-append-add, length-take-le}
 use Rattle.places.specs.inner.Put.{put}
 
 pub put-one : (b : List ℕ) (at x : ℕ) → at < length b → set b at x ≡ put b at (x ∷ [])
@@ -83,3 +83,8 @@ put-after p q k at s e =
 pub put-front : (p q s : List ℕ) → length p ≡ length s → put (p ++ q) 0 s ≡ s ++ q
 unfolding put
 put-front p q s e = ap (λ (x : List ℕ). s ++ x) (ap (λ (k : ℕ). drop k (p ++ q)) (zero-add (length s)) ∙ drop-at p q (length s) e)
+
+-- a list put over the front of a longer one
+pub put-over : (p q s : List ℕ) → length s ≤ length p → put (p ++ q) 0 s ≡ s ++ (drop (length s) p ++ q)
+unfolding put
+put-over p q s l = ap (λ (x : List ℕ). s ++ x) (ap (λ (k : ℕ). drop k (p ++ q)) (zero-add (length s)) ∙ drop-append-le (length s) p q l)

@@ -1,7 +1,7 @@
 -- The starred cases of the outline, in its order, each computed from the definitions; at the end two halves.
 --
 -- Offers are written as in the outline, a quantity at a price. Their outcome is the total, the price or none, and what
--- each row clears.
+-- each row clears. A total under the curve's last point is told by that the offers can supply it and not one tenth more.
 -- Assumes nothing.
 use mathlib.Core.Path.{_≡_, refl}
 use Prim.Native.Nat.{ℕ}
@@ -9,6 +9,7 @@ use mathlib.Core.List.{[], _∷_}
 use mathlib.Core.Option.{none, some}
 use Rattle.values.specs.declared.Value.the-variants.{Given}
 use Rattle.curve.specs.declared.CurvePrice.the-variants.{Price}
+use Rattle.reference.proofs.Found.{outcomeAt, outcome-found}
 use Rattle.reference.specs.Book.{curveIn, curveBy, prices, quantities, reference, reference2025, examplePrice, _at_, outcome}
 
 -- P1 50,000, P2 18,750; Q1 9,900, Q2 10,150, Q3 10,450
@@ -57,28 +58,28 @@ margin-5000-2025 = unfold curveIn in refl
 
 -- no offers: X 0, no price
 pub no-offers : outcome [] ≡ (0, none, [])
-no-offers = unfold outcome in refl
+no-offers = unfold outcomeAt in outcome-found [] 0 refl refl refl
 
 -- 9,000 at 0: all clears, price 50,000; 11,000 at 0: X 10,450, price 0, a real zero
 pub all-clears : outcome (9000 at 0 ∷ []) ≡ (9000, some 50000, 9000 ∷ [])
-all-clears = unfold outcome in refl
+all-clears = unfold outcomeAt in outcome-found (9000 at 0 ∷ []) 9000 refl refl refl
 
 pub real-zero : outcome (11000 at 0 ∷ []) ≡ (10450, some 0, 10450 ∷ [])
 real-zero = unfold outcome in refl
 
 -- 100 at 50,000 clears; at 50,001 nothing clears, no price
 pub at-top-clears : outcome (100 at 50000 ∷ []) ≡ (100, some 50000, 100 ∷ [])
-at-top-clears = unfold outcome in refl
+at-top-clears = unfold outcomeAt in outcome-found (100 at 50000 ∷ []) 100 refl refl refl
 
 pub over-top-clears-nothing : outcome (100 at 50001 ∷ []) ≡ (0, none, 0 ∷ [])
-over-top-clears-nothing = unfold outcome in refl
+over-top-clears-nothing = unfold outcomeAt in outcome-found (100 at 50001 ∷ []) 0 refl refl refl
 
 -- 10,000 at 10,000 and 500 at 40,000: X 10,000, price 37,500; with the second at 37,450: same X, price 37,450
 pub curve-sets-price : outcome (10000 at 10000 ∷ 500 at 40000 ∷ []) ≡ (10000, some 37500, 10000 ∷ 0 ∷ [])
-curve-sets-price = unfold outcome in refl
+curve-sets-price = unfold outcomeAt in outcome-found (10000 at 10000 ∷ 500 at 40000 ∷ []) 10000 refl refl refl
 
 pub uncleared-sets-price : outcome (10000 at 10000 ∷ 500 at 37450 ∷ []) ≡ (10000, some 37450, 10000 ∷ 0 ∷ [])
-uncleared-sets-price = unfold outcome in refl
+uncleared-sets-price = unfold outcomeAt in outcome-found (10000 at 10000 ∷ 500 at 37450 ∷ []) 10000 refl refl refl
 
 -- not starred: C 146, E 0, F 2,000 come to 87.5 and 37.5 cents, and R 1,050 to 1,039.5 tenths at 99 percent
 pub half-cent-upward : prices (curveBy 146 0 2000 10000) ≡ (88, 38)

@@ -1,1 +1,2 @@
 pub mod RowsDecided
+mod RowNumbers

@@ -38,8 +38,13 @@ pub fn put_line(
     ensures { λ r. ⌜ Shown (now (room .entry)) at (lineNumbers row o cleared committed mills amount sum) (now (room .exit)) r ⌝ }
 {
     let price = o.price;
-    let exact = o.quantity as u64 * amount as u64;
-    let taken = cleared as u64 * sum as u64;
+    let resource = o.resource as u64;
+    let step = o.step as u64;
+    let seller = o.seller as u64;
+    let offered = o.quantity as u64;
+    let sold = cleared as u64;
+    let exact = offered * amount as u64;
+    let taken = sold * sum as u64;
     put_form(
         room,
         at,
@@ -48,20 +53,20 @@ pub fn put_line(
 ",
         &[
             row as u64,
-            (1 < o.step) as u64,
-            o.resource as u64,
-            o.step as u64,
-            o.seller as u64,
-            ((100000000 <= o.resource) | (1000000 <= o.seller)) as u64,
+            (1 < step) as u64,
+            resource,
+            step,
+            seller,
+            ((100000000 <= resource) | (1000000 <= seller)) as u64,
             number_held(price) as u64,
-            o.quantity as u64,
-            cleared as u64,
+            offered,
+            sold,
             committed as u64,
             mills,
             line_word(
                 cleared == 0,
                 cleared < committed,
-                cleared == o.quantity,
+                sold == offered,
                 exact < taken,
             ),
         ],

@@ -6,7 +6,7 @@ use wording::word::either;
 use wording::word::first_true;
 ghost use Rattle.forms.specs.Shown.{Shown};
 ghost use Rattle.rowlines.specs.Turn.{turnNumbers};
-ghost use Rattle.rowlines.specs.inner.Rival.{Faces};
+ghost use Rattle.rowlines.specs.inner.Rival.{Faces, Takes};
 
 // What is said of the row at the other side of the cut: how it is named, its resource and its step, and what decides.
 struct Facing {
@@ -37,21 +37,50 @@ fn across(edition: u32, gets: bool, rival: Rival) -> Facing
     }
 }
 
-// Puts a row's place in the contest for the spare tenths of its level, and against whom it gets one or gets none.
-pub fn put_turn(room: &mut [u8], at: usize, edition: u32, t: Turn) -> usize
-    ensures { λ r. ⌜ Shown (now (room .entry)) at (turnNumbers edition t) (now (room .exit)) r ⌝ }
+// What is said of a turn: the words for the spare tenths, the row's place and among how many, the tenths that are spare, whether it
+// gets one, and the row at the other side of the cut.
+struct Taken {
+    shared: u64,
+    place: u64,
+    contenders: u64,
+    spares: u64,
+    gets: u64,
+    named: u64,
+    resource: u64,
+    step: u64,
+    decided: u64,
+}
+
+// A row's turn, as the numbers that are shown.
+fn turn_numbers(edition: u32, t: Turn) -> Taken
+    ensures { λ r. ⌜ Takes edition t r ⌝ }
 {
     let rival = t.rival;
     let gets = t.place < t.spares;
     let other = across(edition, gets, rival);
-    let place = t.place as u64 + 1;
-    let contenders = t.contenders as u64;
+    Taken {
+        shared: first_true(t.spares == 0, t.spares == 1),
+        place: t.place as u64 + 1,
+        contenders: t.contenders as u64,
+        spares: t.spares as u64,
+        gets: first_true(t.spares == 0, gets),
+        named: other.named,
+        resource: other.resource,
+        step: other.step,
+        decided: other.decided,
+    }
+}
+
+// Puts a row's place in the contest for the spare tenths of its level, and against whom it gets one or gets none.
+pub fn put_turn(room: &mut [u8], at: usize, edition: u32, t: Turn) -> usize
+    ensures { λ r. ⌜ Shown (now (room .entry)) at (turnNumbers edition t) (now (room .exit)) r ⌝ }
+{
+    let n = turn_numbers(edition, t);
     put_form(
         room,
         at,
         b"  [there is no spare tenth: the parts come out even|place @ of @ for 1 spare tenth|place @ of @ for @ spare tenths]
-[|  it gets one; the first that gets none is |  it gets none; the last that gets one is ]\
-    [|resource #|step # of resource #][|:
+[|  it gets one; the first that gets none is |  it gets none; the last that gets one is ][|resource #|step # of resource #][|:
     the remainder here is larger
 |:
     the remainders are the same, and the stamp here is earlier
@@ -69,18 +98,18 @@ pub fn put_turn(room: &mut [u8], at: usize, edition: u32, t: Turn) -> usize
     only the steps differ, and the step here is higher
 ]",
         &[
-            first_true(t.spares == 0, t.spares == 1),
-            place,
-            contenders,
-            place,
-            contenders,
-            t.spares as u64,
-            first_true(t.spares == 0, gets),
-            other.named,
-            other.resource,
-            other.step,
-            other.resource,
-            other.decided,
+            n.shared,
+            n.place,
+            n.contenders,
+            n.place,
+            n.contenders,
+            n.spares,
+            n.gets,
+            n.named,
+            n.resource,
+            n.step,
+            n.resource,
+            n.decided,
         ],
     )
 }

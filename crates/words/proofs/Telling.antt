@@ -59,25 +59,25 @@ told-as e t = rw (← e) t
 pub words-known : {number k : ℕ} → number ≡ k → bytesOf (wordsOf k) ≡ bytesOf (wordsOf number)
 words-known e = ap (λ n. bytesOf (wordsOf n)) (sym e)
 
--- a number that no refusal has
-pub words-none : (n : ℕ) → (n ≡ 1 → ⊥) → (n ≡ 2 → ⊥) → (n ≡ 3 → ⊥) → (n ≡ 4 → ⊥) → (n ≡ 5 → ⊥) → (n ≡ 6 → ⊥) → (n ≡ 7 → ⊥)
-    → (n ≡ 8 → ⊥) → (n ≡ 9 → ⊥) → (n ≡ 10 → ⊥) → (n ≡ 11 → ⊥) → (n ≡ 19 → ⊥) → (n ≡ 20 → ⊥) → bytesOf (wordsOf n) ≡ []
+-- a number past 11 that no refusal has
+pub words-none : (n : ℕ) → 11 < n → (n ≡ 19 → ⊥) → (n ≡ 20 → ⊥) → bytesOf (wordsOf n) ≡ []
 unfolding wordsOf bytesOf
-words-none n a b c d e f g h i j k l m =
+words-none n past rows room =
+    let other : (k : ℕ) → k ≤ 11 → eqb n k ≡ false = λ k l. ne-eqb n k (λ e. omega arith) in
     rw (
-      ne-eqb n 1 a,
-      ne-eqb n 2 b,
-      ne-eqb n 3 c,
-      ne-eqb n 4 d,
-      ne-eqb n 5 e,
-      ne-eqb n 6 f,
-      ne-eqb n 7 g,
-      ne-eqb n 8 h,
-      ne-eqb n 9 i,
-      ne-eqb n 10 j,
-      ne-eqb n 11 k,
-      ne-eqb n 19 l,
-      ne-eqb n 20 m,
+      other 1 (omega arith),
+      other 2 (omega arith),
+      other 3 (omega arith),
+      other 4 (omega arith),
+      other 5 (omega arith),
+      other 6 (omega arith),
+      other 7 (omega arith),
+      other 8 (omega arith),
+      other 9 (omega arith),
+      other 10 (omega arith),
+      other 11 (omega arith),
+      ne-eqb n 19 rows,
+      ne-eqb n 20 room,
     )
 
 -- ---- room for every refusal's words

@@ -4,6 +4,7 @@ use plain::structs::NO_VALUE;
 use plain::structs::OzpText;
 use text::put_bytes;
 ghost use mathlib.Core.Path.{_≡_};
+ghost use Prim.Native.Nat.{_≤_, _<_};
 ghost use Rattle.words.specs.Texts.{textGiven, textRefused, noText, Told};
 ghost use Rattle.words.specs.Words.{bytesOf, wordsOf};
 
@@ -57,8 +58,9 @@ pub fn put_text(room: &mut [u8], text: &[u8]) -> OzpText
     given(end as u64)
 }
 
-// What a refusal's number says, and what its place is.
-pub fn words(number: u32, room: &mut [u8]) -> OzpText
+// What refusals 1 to 5 say, of a book's length, its blocks and its parameters.
+fn book_words(number: u32, room: &mut [u8]) -> OzpText
+    requires { ⌜ number ≤ 5 ⌝ }
     ensures { λ r. ⌜ Told (bytesOf (wordsOf number)) (now (room .entry)) r (now (room .exit)) ⌝ }
 {
     match number {
@@ -73,6 +75,16 @@ pub fn words(number: u32, room: &mut [u8]) -> OzpText
         ),
         4 => put_text(room, b"a parameter is missing; the field"),
         5 => put_text(room, b"a parameter is out of range; the field"),
+        _ => no_text(),
+    }
+}
+
+// What refusals 6 to 11 say, of its rows and of the buffers for what they clear and commit.
+fn offer_words(number: u32, room: &mut [u8]) -> OzpText
+    requires { ⌜ (5 < number) × (number ≤ 11) ⌝ }
+    ensures { λ r. ⌜ Told (bytesOf (wordsOf number)) (now (room .entry)) r (now (room .exit)) ⌝ }
+{
+    match number {
         6 => put_text(room, b"an offer has no price; the row"),
         7 => put_text(room, b"an offer value is out of range; the row"),
         8 => put_text(room, b"a resource number stands in an earlier row; the row"),
@@ -84,10 +96,24 @@ pub fn words(number: u32, room: &mut [u8]) -> OzpText
             room,
             b"a resource's steps do not stand in neighbouring rows counted up from 1, their prices fall, or a step past 1 has a minimum block; the row",
         ),
-        11 => put_text(
+        _ => put_text(
             room,
             b"a row has a step of 2 or more, which edition 1 cannot hold; the row",
         ),
+    }
+}
+
+// What a refusal's number says, and what its place is.
+pub fn words(number: u32, room: &mut [u8]) -> OzpText
+    ensures { λ r. ⌜ Told (bytesOf (wordsOf number)) (now (room .entry)) r (now (room .exit)) ⌝ }
+{
+    if number <= 5 {
+        return book_words(number, room);
+    }
+    if number <= 11 {
+        return offer_words(number, room);
+    }
+    match number {
         19 => put_text(room, b"more than 600 rows; 0"),
         20 => put_text(room, b"the room lent is too small; 0"),
         _ => no_text(),

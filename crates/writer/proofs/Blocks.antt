@@ -7,22 +7,20 @@ use mathlib.Core.List.{List, [], _++_, append-assoc, append-nil}
 use Prim.Native.Nat.{ℕ, zero, suc, _+_, _-_, _*_, _≤_, _<_}
 use native.Mathlib.Nat.{add-zero, add-comm, sub-zero}
 use native.Mathlib.Omega.{arith}
-use lib.ListN.{length, take, drop, length-append, List·getD-append}
-use lib.Seq.{drop-drop, take-at, drop-at}
+use lib.ListN.{length, take, drop, length-append, length-drop, List·getD-append}
+use lib.Seq.{drop-drop, take-at, drop-at, length-take-le}
 use Rattle.values.specs.declared.place.Offer.{Offer}
 use Rattle.sections.specs.Section.{rowsHere}
-use Rattle.layout.specs.Form.{ofrs}
 use Rattle.encoding.specs.Numbers.{u16Bytes, zeros}
 use Rattle.encoding.specs.Encode.{sealed, placesBytes, rowsBytes, rowBlocks}
 use Rattle.encoding.proofs.Digits.{length-zeros}
 use Rattle.encoding.proofs.Sealed.{seal, seal-same}
-use Rattle.encoding.proofs.Rows.{length-rows}
+use Rattle.encoding.proofs.Rows.{length-places, length-rows}
 use Rattle.encoding.proofs.Book.{offersHere, length-offersHere, offersHere-most, length-rowBlocks}
 use Rattle.places.specs.inner.Put.{put}
-use Rattle.places.proofs.Puts.{put-after, put-front}
-use Rattle.making.specs.inner.Made.{sealedAt, blockMade, blocksMade}
-use Rattle.making.proofs.Blanks.{zeros-add}
-use Rattle.writer.proofs.Raw.{unusedPlaces, rawBlock, raw}
+use Rattle.places.proofs.Puts.{put-after, put-front, put-over}
+use Rattle.making.specs.inner.Made.{sealedAt, rowsOpening, unusedAt, blockMade, blocksMade}
+use Rattle.writer.proofs.Raw.{rawBlock, raw}
 
 -- ---- a block of rows
 
@@ -45,22 +43,64 @@ sealed-there f s z q at e whole four =
     ∙ sym (append-assoc s (seal s) q))
 
 -- the block behind others, made around its places
-block-made : (edition : ℕ) (f : List ℕ) (k : ℕ) (offers : List Offer) (q : List ℕ) → length f ≡ k * 512 → length offers ≤ 15
-    → blockMade (f ++ (rawBlock edition offers ++ q)) k (length offers) ≡ f ++ (sealed (rowsBytes edition k offers) ++ q)
-unfolding blockMade rawBlock rowsBytes u16Bytes
-block-made edition f k offers q e few =
-    let head : List ℕ = ofrs ++ (u16Bytes k ++ u16Bytes (length offers)) in
-    let rest : List ℕ = zeros 20 ++ (placesBytes edition offers ++ (unusedPlaces offers ++ (zeros 4 ++ q))) in
-    let cut : rawBlock edition offers ++ q ≡ zeros 8 ++ rest = rw (zeros-add 8 20) (simp append-assoc) in
-    let there : k * 512 ≡ k * 512 + 0 = omega arith in
-    let opened : put (f ++ (rawBlock edition offers ++ q)) (k * 512) head ≡ f ++ (head ++ rest) =
-    ap (λ (b : List ℕ). put (f ++ b) (k * 512) head) cut
-    ∙ ap (λ (at : ℕ). put (f ++ (zeros 8 ++ rest)) at head) there
-    ∙ put-after f (zeros 8 ++ rest) (k * 512) 0 head e
-    ∙ ap (λ (s : List ℕ). f ++ s) (put-front (zeros 8) rest head (length-zeros 8)) in
-    let whole : head ++ rest ≡ rowsBytes edition k offers ++ (zeros 4 ++ q) = simp append-assoc in
-    ap (λ (b : List ℕ). sealedAt b (k * 512)) (opened ∙ ap (λ (s : List ℕ). f ++ s) whole)
-    ∙ sealed-there f (rowsBytes edition k offers) (zeros 4) q (k * 512) e (length-rows edition k offers few) (length-zeros 4)
+module _ (edition : ℕ) (f : List ℕ) (k : ℕ) (offers : List Offer) (g q : List ℕ) (e : length f ≡ k * 512) (few : length offers ≤ 15)
+    (whole : length g ≡ 512) where
+  abbrev n : ℕ
+  n = length offers
+
+  abbrev places : List ℕ
+  places = placesBytes edition offers
+
+  abbrev behind : List ℕ
+  behind = drop (28 + n * 32) g
+
+  abbrev unused : List ℕ
+  unused = zeros (480 - n * 32)
+
+  -- what is left of the block behind its places: room for the sums
+  abbrev last : List ℕ
+  last = drop (length unused) behind
+
+  length-opening : length (rowsOpening k n) ≡ 28
+  unfolding u16Bytes
+  length-opening = simp (length-append, length-zeros)
+
+  length-behind : length behind ≡ 484 - n * 32
+  length-behind = length-drop (28 + n * 32) g ∙ omega (arith, whole)
+
+  opened : put (f ++ (rawBlock edition offers g ++ q)) (k * 512) (rowsOpening k n) ≡ f ++ (rowsOpening k n ++ ((places ++ behind) ++ q))
+  unfolding rawBlock
+  opened =
+      let there : k * 512 ≡ k * 512 + 0 = omega arith in
+      let first : length (take 28 g) ≡ length (rowsOpening k n) = length-take-le 28 g (omega (arith, whole)) ∙ sym length-opening in
+      ap₂ (λ (s : List ℕ) (at : ℕ). put (f ++ s) at (rowsOpening k n)) (append-assoc (take 28 g) (places ++ behind) q) there
+      ∙ put-after f (take 28 g ++ ((places ++ behind) ++ q)) (k * 512) 0 (rowsOpening k n) e
+      ∙ ap (λ (s : List ℕ). f ++ s) (put-front (take 28 g) ((places ++ behind) ++ q) (rowsOpening k n) first)
+
+  cleared : unusedAt (f ++ (rowsOpening k n ++ ((places ++ behind) ++ q))) (k * 512) n
+      ≡ f ++ ((rowsOpening k n ++ places) ++ (unused ++ (last ++ q)))
+  cleared =
+      let there : 28 + n * 32 ≡ 28 + n * 32 + 0 = omega arith in
+      let front : length (rowsOpening k n ++ places) ≡ 28 + n * 32 =
+      length-append (rowsOpening k n) places ∙ ap₂ _+_ length-opening (length-places edition offers) in
+      let fits : length unused ≤ length behind = omega (arith, length-zeros (480 - n * 32), length-behind) in
+      put-after f (rowsOpening k n ++ ((places ++ behind) ++ q)) (k * 512) (28 + n * 32) unused e
+      ∙ ap (λ (s : List ℕ). f ++ s)
+      (ap₂ (λ (s : List ℕ) (at : ℕ). put s at unused) (join (rowsOpening k n) places behind q) there
+      ∙ put-after (rowsOpening k n ++ places) (behind ++ q) (28 + n * 32) 0 unused front
+      ∙ ap (λ (s : List ℕ). (rowsOpening k n ++ places) ++ s) (put-over behind q unused fits))
+    where
+      join : (a b c d : List ℕ) → a ++ ((b ++ c) ++ d) ≡ (a ++ b) ++ (c ++ d)
+      join a b c d = simp append-assoc
+
+  block-made : blockMade (f ++ (rawBlock edition offers g ++ q)) k n ≡ f ++ (sealed (rowsBytes edition k offers) ++ q)
+  unfolding blockMade rowsBytes
+  block-made =
+      let four : length last ≡ 4 = length-drop (length unused) behind ∙ omega (arith, length-zeros (480 - n * 32), length-behind) in
+      let all : (rowsOpening k n ++ places) ++ (unused ++ (last ++ q)) ≡ rowsBytes edition k offers ++ (last ++ q) = simp append-assoc in
+      ap (λ (b : List ℕ). sealedAt b (k * 512))
+      (ap (λ (b : List ℕ). unusedAt b (k * 512) n) opened ∙ cleared ∙ ap (λ (s : List ℕ). f ++ s) all)
+      ∙ sealed-there f (rowsBytes edition k offers) last q (k * 512) e (length-rows edition k offers few) four
 
 -- ---- the blocks of rows
 
@@ -81,46 +121,51 @@ blocks-one edition (suc j) k offers =
     ∙ sym (append-assoc (sealed (rowsBytes edition k (take 15 offers))) (rowBlocks edition j (suc k) (drop 15 offers)) _)
 
 -- what is left of so many blocks that are not made yet
-abbrev left : ℕ → ℕ → List Offer → ℕ → List ℕ
-left edition blocks offers j = raw edition (blocks - j) (drop (j * 15) offers)
+abbrev left : ℕ → ℕ → List Offer → List ℕ → ℕ → List ℕ
+left edition blocks offers g j = raw edition (blocks - j) (drop (j * 15) offers) (drop (j * 512) g)
 
-left-one : (edition blocks : ℕ) (offers : List Offer) (j : ℕ) → j < blocks
-    → left edition blocks offers j ≡ rawBlock edition (offersHere offers j) ++ left edition blocks offers (suc j)
+left-one : (edition blocks : ℕ) (offers : List Offer) (g : List ℕ) (j : ℕ) → j < blocks
+    → left edition blocks offers g j ≡ rawBlock edition (offersHere offers j) (take 512 (drop (j * 512) g)) ++ left edition blocks offers g (suc j)
 unfolding raw
-left-one edition blocks offers j l =
+left-one edition blocks offers g j l =
     let more : blocks - j ≡ suc (blocks - suc j) = omega arith in
     let later : j * 15 + 15 ≡ suc j * 15 = omega arith in
-    ap (λ (k : ℕ). raw edition k (drop (j * 15) offers)) more
-    ∙ ap (λ (os : List Offer). rawBlock edition (offersHere offers j) ++ raw edition (blocks - suc j) os)
+    let further : j * 512 + 512 ≡ suc j * 512 = omega arith in
+    ap (λ (k : ℕ). raw edition k (drop (j * 15) offers) (drop (j * 512) g)) more
+    ∙ ap₂ (λ (os : List Offer) (s : List ℕ). rawBlock edition (offersHere offers j) (take 512 (drop (j * 512) g)) ++ raw edition (blocks - suc j) os s)
     (drop-drop 15 (j * 15) offers ∙ ap (λ (at : ℕ). drop at offers) later)
+    (drop-drop 512 (j * 512) g ∙ ap (λ (at : ℕ). drop at g) further)
 
-left-none : (edition blocks : ℕ) (offers : List Offer) → left edition blocks offers blocks ≡ []
+left-none : (edition blocks : ℕ) (offers : List Offer) (g : List ℕ) → left edition blocks offers g blocks ≡ []
 unfolding raw
-left-none edition blocks offers =
+left-none edition blocks offers g =
     let none : blocks - blocks ≡ 0 = omega arith in
-    ap (λ (k : ℕ). raw edition k (drop (blocks * 15) offers)) none
+    ap (λ (k : ℕ). raw edition k (drop (blocks * 15) offers) (drop (blocks * 512) g)) none
 
-module _ (edition : ℕ) (h : List ℕ) (first : length h ≡ 512) (blocks : ℕ) (offers : List Offer) (q : List ℕ) where
-  abbrev n : ℕ
-  n = length offers
+module _ (edition : ℕ) (h : List ℕ) (first : length h ≡ 512) (blocks : ℕ) (offers : List Offer) (g : List ℕ) (held : length g ≡ blocks * 512)
+    (q : List ℕ) where
+  abbrev rows : ℕ
+  rows = length offers
 
   blocks-made : (j : ℕ) → j ≤ blocks
-      → blocksMade (h ++ (raw edition blocks offers ++ q)) n j ≡ h ++ (rowBlocks edition j 1 offers ++ (left edition blocks offers j ++ q))
+      → blocksMade (h ++ (raw edition blocks offers g ++ q)) rows j ≡ h ++ (rowBlocks edition j 1 offers ++ (left edition blocks offers g j ++ q))
   unfolding blocksMade rowBlocks
-  blocks-made zero l = ap (λ (k : ℕ). h ++ (raw edition k offers ++ q)) (sym (sub-zero blocks))
+  blocks-made zero l = ap (λ (k : ℕ). h ++ (raw edition k offers g ++ q)) (sym (sub-zero blocks))
   blocks-made (suc j) l =
       let os : List Offer = offersHere offers j in
-      let rest : List ℕ = left edition blocks offers (suc j) ++ q in
+      let here : List ℕ = take 512 (drop (j * 512) g) in
+      let whole : length here ≡ 512 = length-take-le 512 (drop (j * 512) g) (omega (arith, l, held, length-drop (j * 512) g)) in
+      let rest : List ℕ = left edition blocks offers g (suc j) ++ q in
       let front : List ℕ = h ++ rowBlocks edition j 1 offers in
       let long : length front ≡ (j + 1) * 512 =
       length-append h (rowBlocks edition j 1 offers) ∙ ap₂ _+_ first (length-rowBlocks edition j 1 offers) ∙ omega arith in
-      let next : left edition blocks offers j ++ q ≡ rawBlock edition os ++ rest =
-      ap (λ (s : List ℕ). s ++ q) (left-one edition blocks offers j (omega arith)) ∙ append-assoc (rawBlock edition os) (left edition blocks offers (suc j)) q in
-      ap (λ (b : List ℕ). blockMade b (j + 1) (rowsHere n j)) (blocks-made j (omega arith))
-      ∙ ap (λ (s : List ℕ). blockMade (h ++ (rowBlocks edition j 1 offers ++ s)) (j + 1) (rowsHere n j)) next
+      let next : left edition blocks offers g j ++ q ≡ rawBlock edition os here ++ rest =
+      ap (λ (s : List ℕ). s ++ q) (left-one edition blocks offers g j (omega arith)) ∙ append-assoc (rawBlock edition os here) (left edition blocks offers g (suc j)) q in
+      ap (λ (b : List ℕ). blockMade b (j + 1) (rowsHere rows j)) (blocks-made j (omega arith))
+      ∙ ap (λ (s : List ℕ). blockMade (h ++ (rowBlocks edition j 1 offers ++ s)) (j + 1) (rowsHere rows j)) next
       ∙ ap₂ (λ (b : List ℕ) (k : ℕ). blockMade b (j + 1) k)
-      (sym (append-assoc h (rowBlocks edition j 1 offers) (rawBlock edition os ++ rest))) (sym (length-offersHere offers j))
-      ∙ block-made edition front (j + 1) os rest long (offersHere-most offers j)
+      (sym (append-assoc h (rowBlocks edition j 1 offers) (rawBlock edition os here ++ rest))) (sym (length-offersHere offers j))
+      ∙ block-made edition front (j + 1) os here rest long (offersHere-most offers j) whole
       ∙ append-assoc h (rowBlocks edition j 1 offers) _
       ∙ ap (λ (s : List ℕ). h ++ s)
       (sym (append-assoc (rowBlocks edition j 1 offers) (sealed (rowsBytes edition (j + 1) os)) rest)
@@ -128,8 +173,8 @@ module _ (edition : ℕ) (h : List ℕ) (first : length h ≡ 512) (blocks : ℕ
       ∙ ap (λ (s : List ℕ). s ++ rest) (sym (blocks-one edition j 1 offers)))
 
   -- all blocks, made around their places
-  pub blocks-all : blocksMade (h ++ (raw edition blocks offers ++ q)) n blocks ≡ (h ++ rowBlocks edition blocks 1 offers) ++ q
+  pub blocks-all : blocksMade (h ++ (raw edition blocks offers g ++ q)) rows blocks ≡ (h ++ rowBlocks edition blocks 1 offers) ++ q
   blocks-all =
       blocks-made blocks (omega arith)
-      ∙ ap (λ (s : List ℕ). h ++ (rowBlocks edition blocks 1 offers ++ (s ++ q))) (left-none edition blocks offers)
+      ∙ ap (λ (s : List ℕ). h ++ (rowBlocks edition blocks 1 offers ++ (s ++ q))) (left-none edition blocks offers g)
       ∙ sym (append-assoc h (rowBlocks edition blocks 1 offers) q)

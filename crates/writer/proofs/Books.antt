@@ -1,12 +1,13 @@
--- The book that is made in blanked room is the one that says the contents.
+-- The book that is made in room whose first block is cleared is the one that says the contents.
 --
 -- In order: block 0; the book.
 -- Assumes nothing.
 use mathlib.Core.Path.{_≡_, refl, sym, ap, ap₂, _∙_}
 use mathlib.Core.List.{List, [], _∷_, _++_, append-assoc}
-use Prim.Native.Nat.{ℕ, _/_, _%_, _≤_}
+use Prim.Native.Nat.{ℕ, _+_, _*_, _/_, _%_, _≤_}
 use native.Mathlib.Omega.{arith}
-use lib.ListN.{length, drop, length-append}
+use lib.ListN.{length, take, drop, length-append, length-drop}
+use lib.Seq.{drop-drop, length-take-le}
 use Rattle.values.specs.Contents.{Contents}
 use Rattle.values.specs.declared.head.Parameters.{Parameters}
 use Rattle.values.specs.declared.place.Offer.{Offer}
@@ -22,9 +23,9 @@ use Rattle.encoding.proofs.Book.{encode-length}
 use Rattle.places.specs.inner.Put.{put}
 use Rattle.places.specs.inner.Rows.{putRows}
 use Rattle.places.proofs.Puts.{put-front}
-use Rattle.making.specs.inner.Made.{bytesFor, blanked, opening, sealedAt, blocksMade, bookMade}
-use Rattle.making.proofs.Blanks.{zeros-add}
-use Rattle.writer.proofs.Raw.{raw, rawBook, raw-blanked}
+use Rattle.making.specs.inner.Made.{bytesFor, opening, sealedAt, blocksMade, bookMade}
+use Rattle.making.proofs.Zeros.{zeros-add}
+use Rattle.writer.proofs.Raw.{raw, rawRoom}
 use Rattle.writer.proofs.Placed.{StepsWithin, rows-put}
 use Rattle.writer.proofs.Blocks.{sealed-there, blocks-all}
 
@@ -111,19 +112,27 @@ module _ (c : Contents) where
   abbrev blocks : ℕ
   blocks = blocksFor n
 
-  book-made : (q : List ℕ) → bookMade edition (c .parameters) n (rawBook edition blocks offers q) ≡ encode c ++ q
-  unfolding bookMade encode
-  book-made q =
-      let h : List ℕ = sealed (headBytes edition (c .parameters) n) in
-      ap (λ (b : List ℕ). blocksMade b n blocks) (head-made edition (c .parameters) n (raw edition blocks offers ++ q))
-      ∙ blocks-all edition h (length-sealed _ (length-head edition (c .parameters) n)) blocks offers q
+  module _ (room : List ℕ) (fits : bytesFor n ≤ length room) where
+    abbrev held : List ℕ
+    held = take (blocks * 512) (drop 512 room)
 
-  -- The book that is made in blanked room, of rows that have steps of its edition, is the one that says the contents, and behind it
-  -- stands what stood there.
-  pub room-made : StepsWithin edition offers → (room : List ℕ)
-      → bookMade edition (c .parameters) n (putRows (blanked (bytesFor n) room) edition 0 offers) ≡ encode c ++ drop (length (encode c)) room
-  room-made within room =
-      ap (λ (b : List ℕ). bookMade edition (c .parameters) n (putRows b edition 0 offers)) (raw-blanked edition n room)
-      ∙ ap (bookMade edition (c .parameters) n) (rows-put edition blocks (drop (bytesFor n) room) offers (omega arith) within)
-      ∙ book-made (drop (bytesFor n) room)
-      ∙ ap (λ (k : ℕ). encode c ++ drop k room) (sym (encode-length c))
+    abbrev behind : List ℕ
+    behind = drop (blocks * 512) (drop 512 room)
+
+    book-made : bookMade edition (c .parameters) n (rawRoom edition blocks offers room) ≡ encode c ++ behind
+    unfolding bookMade encode
+    book-made =
+        let h : List ℕ = sealed (headBytes edition (c .parameters) n) in
+        let whole : length held ≡ blocks * 512 = length-take-le (blocks * 512) (drop 512 room) (omega (arith, fits, length-drop 512 room)) in
+        ap (λ (b : List ℕ). blocksMade b n blocks) (head-made edition (c .parameters) n (raw edition blocks offers held ++ behind))
+        ∙ blocks-all edition h (length-sealed _ (length-head edition (c .parameters) n)) blocks offers held whole behind
+
+    -- The book that is made in room whose first block is cleared, of rows that have steps of its edition, is the one that says the
+    -- contents, and behind it stands what stood there.
+    pub room-made : StepsWithin edition offers
+        → bookMade edition (c .parameters) n (putRows (put room 0 (zeros 512)) edition 0 offers) ≡ encode c ++ drop (length (encode c)) room
+    room-made within =
+        let bytes : 512 + blocks * 512 ≡ length (encode c) = omega (arith, encode-length c) in
+        ap (bookMade edition (c .parameters) n) (rows-put edition blocks room (omega (arith, fits)) offers (omega arith) within)
+        ∙ book-made
+        ∙ ap (λ (s : List ℕ). encode c ++ s) (drop-drop (blocks * 512) 512 room ∙ ap (λ (k : ℕ). drop k room) bytes)

@@ -1,65 +1,65 @@
--- A book that holds its rows in their places and is zero elsewhere, and what stands behind it.
+-- A room whose rows stand in their places, and that holds elsewhere what it held but for its first block, which is cleared.
 --
--- In order: a block with its places alone, and blocks of them; the book.
+-- In order: a block whose places are filled, and blocks of them; the room.
 -- Assumes nothing.
 use mathlib.Core.Path.{_≡_, refl, sym, ap, ap₂, _∙_}
 use mathlib.Core.List.{List, [], _∷_, _++_, append-assoc}
 use Prim.Native.Nat.{ℕ, zero, suc, _+_, _-_, _*_, _≤_}
 use native.Mathlib.Omega.{arith}
-use lib.ListN.{length, take, drop, length-append, length-take}
+use lib.ListN.{length, take, drop, length-append, length-take, length-drop, take-append-drop}
+use lib.Seq.{length-take-le}
 use Rattle.values.specs.declared.place.Offer.{Offer}
-use Rattle.sections.specs.Section.{blocksFor}
 use Rattle.encoding.specs.Numbers.{zeros}
 use Rattle.encoding.specs.Encode.{placesBytes}
 use Rattle.encoding.proofs.Digits.{length-zeros}
 use Rattle.encoding.proofs.Rows.{length-places}
-use Rattle.making.specs.inner.Made.{bytesFor, blanked}
-use Rattle.making.proofs.Blanks.{zeros-add}
-
-no-zeros : [] ≡ zeros 0
-unfolding zeros
-no-zeros = refl
-
-abbrev pub unusedPlaces : List Offer → List ℕ
-unusedPlaces offers = zeros (480 - length offers * 32)
+use Rattle.places.specs.inner.Put.{put}
+use Rattle.places.proofs.Puts.{put-front}
 
 pub fifteen : (offers : List Offer) → length (take 15 offers) ≤ 15
 fifteen offers = omega (arith, length-take 15 offers)
 
 module _ (edition : ℕ) where
-  -- a block with its places alone
-  unfoldable pub rawBlock : List Offer → List ℕ
-  rawBlock offers = zeros 28 ++ (placesBytes edition offers ++ (unusedPlaces offers ++ zeros 4))
+  -- a block whose first places hold these offers, and that held g
+  unfoldable pub rawBlock : List Offer → List ℕ → List ℕ
+  rawBlock offers g = take 28 g ++ (placesBytes edition offers ++ drop (28 + length offers * 32) g)
 
-  pub length-rawBlock : (offers : List Offer) → length offers ≤ 15 → length (rawBlock offers) ≡ 512
+  pub length-rawBlock : (offers : List Offer) (g : List ℕ) → length offers ≤ 15 → length g ≡ 512 → length (rawBlock offers g) ≡ 512
   unfolding rawBlock
-  length-rawBlock offers few = simp (length-append, length-zeros, length-places edition offers) (omega arith)
+  length-rawBlock offers g few whole = simp (length-append, length-take, length-drop, length-places edition offers) (omega (arith, whole))
 
-  -- so many blocks, fifteen offers in each
-  unfoldable pub raw : ℕ → List Offer → List ℕ
-  raw zero offers = []
-  raw (suc blocks) offers = rawBlock (take 15 offers) ++ raw blocks (drop 15 offers)
+  -- so many blocks that held g, fifteen offers in each
+  unfoldable pub raw : ℕ → List Offer → List ℕ → List ℕ
+  raw zero offers g = []
+  raw (suc blocks) offers g = rawBlock (take 15 offers) (take 512 g) ++ raw blocks (drop 15 offers) (drop 512 g)
 
-  -- with no offers all is zero
-  pub raw-none : (blocks : ℕ) → raw blocks [] ≡ zeros (blocks * 512)
-  unfolding raw rawBlock placesBytes
-  raw-none zero = no-zeros
-  raw-none (suc blocks) =
-      let block : zeros 28 ++ (zeros 480 ++ zeros 4) ≡ zeros 512 = sym (zeros-add 28 484 ∙ ap (λ (s : List ℕ). zeros 28 ++ s) (zeros-add 480 4)) in
-      let next : 512 + blocks * 512 ≡ suc blocks * 512 = omega arith in
-      ap₂ _++_ block (raw-none blocks) ∙ sym (zeros-add 512 (blocks * 512)) ∙ ap zeros next
+  block-none : (g : List ℕ) → rawBlock [] g ≡ g
+  unfolding rawBlock placesBytes
+  block-none g = take-append-drop 28 g
 
-  -- the book before it is made, and what stands behind it
-  abbrev pub rawBook : ℕ → List Offer → List ℕ → List ℕ
-  rawBook blocks offers q = zeros 512 ++ (raw blocks offers ++ q)
+  none : (g : List ℕ) → length g ≡ 0 → [] ≡ g
+  none [] e = refl
+  none (x ∷ g) e = absurd (omega arith)
 
-  -- room that is blanked for so many rows is such a book with no offers
-  pub raw-blanked : (rows : ℕ) (room : List ℕ) → blanked (bytesFor rows) room ≡ rawBook (blocksFor rows) [] (drop (bytesFor rows) room)
-  unfolding blanked
-  raw-blanked rows room =
-      let q : List ℕ = drop (bytesFor rows) room in
-      let bytes : bytesFor rows ≡ 512 + blocksFor rows * 512 = omega arith in
-      ap (λ (k : ℕ). zeros k ++ q) bytes
-      ∙ ap (λ (s : List ℕ). s ++ q) (zeros-add 512 (blocksFor rows * 512))
-      ∙ append-assoc (zeros 512) (zeros (blocksFor rows * 512)) q
-      ∙ ap (λ (s : List ℕ). zeros 512 ++ (s ++ q)) (sym (raw-none (blocksFor rows)))
+  -- with no offers they hold what they held
+  pub raw-none : (blocks : ℕ) (g : List ℕ) → length g ≡ blocks * 512 → raw blocks [] g ≡ g
+  unfolding raw
+  raw-none zero g e = none g e
+  raw-none (suc blocks) g e =
+      ap₂ _++_ (block-none (take 512 g)) (raw-none blocks (drop 512 g) (length-drop 512 g ∙ omega (arith, e))) ∙ take-append-drop 512 g
+
+  -- the room before the book is made: its first block cleared, blocks that hold these offers, and what stands behind the book
+  abbrev pub rawRoom : ℕ → List Offer → List ℕ → List ℕ
+  rawRoom blocks offers room =
+      zeros 512 ++ (raw blocks offers (take (blocks * 512) (drop 512 room)) ++ drop (blocks * 512) (drop 512 room))
+
+  -- a room whose first block is cleared is such a room with no offers
+  pub raw-room : (blocks : ℕ) (room : List ℕ) → 512 + blocks * 512 ≤ length room → put room 0 (zeros 512) ≡ rawRoom blocks [] room
+  raw-room blocks room fits =
+      let rest : List ℕ = drop 512 room in
+      let whole : length (take (blocks * 512) rest) ≡ blocks * 512 = length-take-le (blocks * 512) rest (omega (arith, length-drop 512 room)) in
+      ap (λ (b : List ℕ). put b 0 (zeros 512)) (sym (take-append-drop 512 room))
+      ∙ put-front (take 512 room) rest (zeros 512) (length-take-le 512 room (omega arith) ∙ sym (length-zeros 512))
+      ∙ ap (λ (s : List ℕ). zeros 512 ++ s)
+      (sym (take-append-drop (blocks * 512) rest)
+      ∙ ap (λ (s : List ℕ). s ++ drop (blocks * 512) rest) (sym (raw-none blocks (take (blocks * 512) rest) whole)))

@@ -19,7 +19,7 @@ returns : tie.Need-returns
 returns c = c .cleared .ensures ∙ cleared-told _ (c .before .before .a .given .1)
 
 returns-2 : tie.Need-returns-2
-returns-2 c = cc
+returns-2 c = simp (c .before .a2 .given .1)
 
 pub answer-spec : {M : Type 1} → statement M
 answer-spec = tie.close (tie.spec enum-known-a cleared-requires enum-known-a-2 returns returns-2)

@@ -11,7 +11,7 @@ clearing-cents-requires : tie.Need-clearing-cents-requires
 clearing-cents-requires c κs = search needs
 
 returns : tie.Need-returns
-returns c = cc
+returns c = simp (c .clearing-cents .ensures, c .before .clearing-kind .ensures)
 
 pub cleared-spec : {M : Type 1} → statement M
 cleared-spec = tie.close (tie.spec clearing-kind-requires clearing-cents-requires returns)

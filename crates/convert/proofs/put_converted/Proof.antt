@@ -8,7 +8,7 @@ use Rattle.block.specs.Bytes.{byte}
 use borrow.Author.Needs.{needs}
 use Rattle.values.specs.declared.Verdict.the-variants.{Passed}
 use Rattle.convert.specs.inner.Converts.{ownFault}
-use Rattle.convert.proofs.Converting.{converted-refused, converted-short, converted-made, own-sound}
+use Rattle.convert.proofs.Converting.{converted-refused, converted-short, converted-made, own-sound, own-block}
 use Rattle.convert.proofs.put_converted.Statement.{statement}
 use Rattle.convert.proofs.put_converted.Tie as tie
 
@@ -43,8 +43,8 @@ returns-2 c =
     let told = c .before .before in
     converted-short _ _ (owned told) (bytes-known told) (c .before .if1 .taken) (c .refused2 .ensures)
 
-blank-requires : tie.Need-blank-requires
-blank-requires c κs = search needs
+put-zeros-requires : tie.Need-put-zeros-requires
+put-zeros-requires c κs = omega (arith, c .before .if1 .left, own-block _ (owned (c .before .before)))
 
 put-other-requires : tie.Need-put-other-requires
 put-other-requires c κs =
@@ -60,9 +60,9 @@ same-length c = search needs
 returns-3 : tie.Need-returns-3
 returns-3 c =
     let put = c .before .before .before in
-    let blank = put .before .before .before .before in
-    let else = blank .before .before in
-    converted-made _ _ (owned (else .before)) (bytes-known (else .before)) (omega (arith, else .if1 .left)) (blank .blank .ensures) (put .put-other .ensures) (c .given .ensures)
+    let cleared = put .before .before .before .before in
+    let else = cleared .before .before in
+    converted-made _ _ (owned (else .before)) (bytes-known (else .before)) (omega (arith, else .if1 .left)) (cleared .put-zeros .ensures) (put .put-other .ensures) (c .given .ensures)
 
 pub put-converted-spec : {M : Type 1} → statement M
 put-converted-spec =
@@ -75,7 +75,7 @@ put-converted-spec =
     enum-told
     refused-requires-2
     returns-2
-    blank-requires
+    put-zeros-requires
     put-other-requires
     given-requires
     same-length

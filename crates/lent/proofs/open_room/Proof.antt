@@ -1,9 +1,6 @@
--- `open_room` blanks the room where nothing is refused.
+-- `open_room` clears the room's first block where nothing is refused.
 -- Assumes nothing.
-use mathlib.Core.Path.{_≡_, ap, _∙_}
-use Prim.Native.Nat.{ℕ}
-use Rattle.making.specs.inner.Made.{blanked}
-use Rattle.lent.proofs.Rooms.{opened-refused, opened-short, opened-blank}
+use Rattle.lent.proofs.Rooms.{opened-refused, opened-short, opened-cleared}
 use native.Mathlib.Omega.{arith}
 use borrow.Author.Needs.{needs}
 use Rattle.lent.proofs.open_room.Statement.{statement}
@@ -32,8 +29,8 @@ returns-2 c =
     let bytes = c .before .before .bytes-for .ensures .0 in
     opened-short _ _ (c .before .before .before .enum-told .given .1) (omega (arith, bytes, c .before .if1 .taken)) (c .drafted2 .ensures)
 
-blank-requires : tie.Need-blank-requires
-blank-requires c κs = search needs
+put-zeros-requires : tie.Need-put-zeros-requires
+put-zeros-requires c κs = search needs
 
 drafted-requires-3 : tie.Need-drafted-requires-3
 drafted-requires-3 c κs = search needs
@@ -43,12 +40,10 @@ same-length c = search needs
 
 returns-3 : tie.Need-returns-3
 returns-3 c =
-    let blank = c .before .before .before in
-    let else = blank .before .before in
+    let cleared = c .before .before .before in
+    let else = cleared .before .before in
     let bytes = else .before .bytes-for .ensures .0 in
-    let told = else .before .before in
-    opened-blank _ _ (told .enum-told .given .1) (omega (arith, bytes, else .if1 .left)) (c .drafted3 .ensures)
-    (blank .blank .ensures ∙ ap (λ (k : ℕ). blanked k (told .before .before .before .before .args .room .now)) bytes)
+    opened-cleared _ _ (else .before .before .enum-told .given .1) (omega (arith, bytes, else .if1 .left)) (c .drafted3 .ensures) (cleared .put-zeros .ensures)
 
 pub open-room-spec : {M : Type 1} → statement M
 open-room-spec =
@@ -61,7 +56,7 @@ open-room-spec =
     bytes-for-requires
     drafted-requires-2
     returns-2
-    blank-requires
+    put-zeros-requires
     drafted-requires-3
     same-length
     returns-3)

@@ -20,7 +20,14 @@ value-out-requires-5 : tie.Need-value-out-requires-5
 value-out-requires-5 c κs = search needs
 
 returns : tie.Need-returns
-returns c = cc
+returns c =
+    simp (
+      c .value-out5 .ensures,
+      c .before .value-out4 .ensures,
+      c .before .before .value-out3 .ensures,
+      c .before .before .before .value-out2 .ensures,
+      c .before .before .before .before .value-out .ensures,
+    )
 
 pub contents-out-spec : {M : Type 1} → statement M
 contents-out-spec =

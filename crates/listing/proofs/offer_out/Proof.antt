@@ -11,7 +11,7 @@ value-out-requires-2 : tie.Need-value-out-requires-2
 value-out-requires-2 c κs = search needs
 
 returns : tie.Need-returns
-returns c = cc
+returns c = simp (c .value-out2 .ensures, c .before .value-out .ensures)
 
 pub offer-out-spec : {M : Type 1} → statement M
 offer-out-spec = tie.close (tie.spec value-out-requires value-out-requires-2 returns)

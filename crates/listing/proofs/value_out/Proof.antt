@@ -11,10 +11,10 @@ enum-told : tie.Need-enum-told
 enum-told c = search needs
 
 returns : tie.Need-returns
-returns c = cc
+returns c = simp (c .before .v .given .1)
 
 returns-2 : tie.Need-returns-2
-returns-2 c = cc
+returns-2 c = simp (c .enum-told .given .1)
 
 pub value-out-spec : {M : Type 1} → statement M
 value-out-spec = tie.close (tie.spec enum-known-v enum-told returns returns-2)

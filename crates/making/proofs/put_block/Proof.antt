@@ -1,63 +1,61 @@
+-- `put_block` puts what opens a block of rows and zeros where nothing stands, and seals it.
+-- Assumes nothing.
 use Rattle.making.proofs.Fields.{put-block}
-use native.Mathlib.Omega.{arith}
 use borrow.Author.Needs.{needs}
 use Rattle.making.proofs.put_block.Statement.{statement}
 use Rattle.making.proofs.put_block.Tie as tie
-use Rattle.making.proofs.put_block.Reads as reads
-use Rattle.making.proofs.put_block.Lts as lts
-use Rattle.making.proofs.seal.Reads as seal-reads
-use Rattle.places.proofs.bytes.put_letters.Reads as put-letters-reads
-use Rattle.places.proofs.bytes.put_u16.Reads as put-u16-reads
 
--- src/lib.rt:82:14
 mul-at : tie.Need-mul-at
 mul-at c = search needs
 
--- src/lib.rt:83:5
 put-letters-requires : tie.Need-put-letters-requires
 put-letters-requires c κs = search needs
 
--- src/lib.rt:84:16
 add-put-u16 : tie.Need-add-put-u16
 add-put-u16 c = search needs
 
--- src/lib.rt:84:24
 cast-put-u16 : tie.Need-cast-put-u16
 cast-put-u16 c = search needs
 
--- src/lib.rt:84:5
 put-u16-requires : tie.Need-put-u16-requires
 put-u16-requires c κs = search needs
 
--- src/lib.rt:85:16
 add-put-u16-2 : tie.Need-add-put-u16-2
 add-put-u16-2 c = search needs
 
--- src/lib.rt:85:24
 cast-put-u16-2 : tie.Need-cast-put-u16-2
 cast-put-u16-2 c = search needs
 
--- src/lib.rt:85:5
 put-u16-requires-2 : tie.Need-put-u16-requires-2
 put-u16-requires-2 c κs = search needs
 
--- src/lib.rt:86:5
+add-put-zeros : tie.Need-add-put-zeros
+add-put-zeros c = search needs
+
+put-zeros-requires : tie.Need-put-zeros-requires
+put-zeros-requires c κs = search needs
+
+put-unused-requires : tie.Need-put-unused-requires
+put-unused-requires c κs = search needs
+
 seal-requires : tie.Need-seal-requires
 seal-requires c κs = search needs
 
--- src/lib.rt:78:1
 same-length : tie.Need-same-length
 same-length c = search needs
 
--- src/lib.rt:78:1
 returns : tie.Need-returns
 returns c =
-    let a = c .before .before .before .before .before .before .before .before .before .before .before .before .before .before .before .before .before .before .args in
-    put-block (a .b .now) (a .k) (a .here) (c .before .before .before .before .before .before .before .before .before .before .before .before .before .before .before .before .before .before .pre .0)
-    (c .before .before .before .before .before .before .before .before .before .before .before .before .before .before .put-letters .ensures)
-    (c .before .before .before .before .before .before .before .before .before .before .put-u16 .ensures)
-    (c .before .before .before .before .before .before .put-u162 .ensures)
-    (c .before .before .seal .ensures)
+    let sealed = c .before .before in
+    let unused = sealed .before .before .before .before in
+    let opened = unused .before .before .before .before in
+    let count = opened .before .before .before .before in
+    let number = count .before .before .before .before in
+    let letters = number .before .before .before .before in
+    let s = letters .before .before .before .before in
+    put-block (s .args .b .now) (s .args .k) (s .args .here) (s .pre .0)
+    (letters .put-letters .ensures) (number .put-u16 .ensures) (count .put-u162 .ensures) (opened .put-zeros .ensures) (unused .put-unused .ensures)
+    (sealed .seal .ensures)
 
 pub put-block-spec : {M : Type 1} → statement M
 put-block-spec =
@@ -71,6 +69,9 @@ put-block-spec =
     add-put-u16-2
     cast-put-u16-2
     put-u16-requires-2
+    add-put-zeros
+    put-zeros-requires
+    put-unused-requires
     seal-requires
     same-length
     returns)

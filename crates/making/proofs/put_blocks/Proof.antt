@@ -1,3 +1,5 @@
+-- `put_blocks` makes a block a turn. The loop's invariant: so many blocks are made.
+-- Assumes nothing.
 use mathlib.Core.Path.{refl, ap, _∙_}
 use Rattle.making.proofs.Fields.{blocks-none, blocks-more}
 use mathlib.Core.Path.{_≡_}
@@ -9,11 +11,6 @@ use native.Mathlib.Omega.{arith}
 use borrow.Author.Needs.{needs}
 use Rattle.making.proofs.put_blocks.Statement.{statement}
 use Rattle.making.proofs.put_blocks.Tie as tie
-use Rattle.making.proofs.put_blocks.Reads as reads
-use Rattle.making.proofs.put_blocks.Lts as lts
-use Rattle.sections.proofs.section.blocks_for.Reads as blocks-for-reads
-use Rattle.sections.proofs.section.rows_here.Reads as rows-here-reads
-use Rattle.making.proofs.put_block.Reads as put-block-reads
 
 abbrev Inv-loop : tie.InvT-loop
 Inv-loop b₀ rows j₀ j-end b j =
@@ -25,49 +22,39 @@ Inv-loop b₀ rows j₀ j-end b j =
 abbrev μ-loop : tie.MeasureT-loop
 μ-loop b₀ rows j₀ j-end b j = j-end - j
 
--- src/lib.rt:94:17
 blocks-for-requires : tie.Need-blocks-for-requires Inv-loop μ-loop
 blocks-for-requires c κs = search needs
 
--- src/lib.rt:94:5
 loop-holds : tie.Need-loop-holds Inv-loop μ-loop
 loop-holds c = (c .blocks-for .ensures, omega arith, refl, blocks-none _ _)
 
--- src/lib.rt:95:22
 add-put-block : tie.Need-add-put-block Inv-loop μ-loop
 add-put-block c = search needs
 
--- src/lib.rt:95:29
 rows-here-requires : tie.Need-rows-here-requires Inv-loop μ-loop
 rows-here-requires c κs = search needs
 
--- src/lib.rt:95:9
 put-block-requires : tie.Need-put-block-requires Inv-loop μ-loop
 put-block-requires c κs =
     let l = c .before .before .before .loop .inv in
     let room = c .before .before .before .before .before .before .pre .0 in
     (omega (arith, l .2, room), omega arith, omega (arith, c .rows-here .ensures))
 
--- src/lib.rt:94:9
 add-j : tie.Need-add-j Inv-loop μ-loop
 add-j c = search needs
 
--- src/lib.rt:94:5
 loop-less : tie.Need-loop-less Inv-loop μ-loop
 loop-less c = search needs
 
--- src/lib.rt:94:5
 loop-again : tie.Need-loop-again Inv-loop μ-loop
 loop-again c =
     let s = c .before .before .before .before .before .before .before .before .before .args in
     let l = c .before .before .before .before .before .before .loop in
     (search needs, omega arith, search needs, blocks-more (s .b .now) (s .rows) (l .j) (l .inv .3) (c .before .before .before .rows-here .ensures) (c .before .before .put-block .ensures))
 
--- src/lib.rt:90:1
 same-length : tie.Need-same-length Inv-loop μ-loop
 same-length c = search needs
 
--- src/lib.rt:90:1
 returns : tie.Need-returns Inv-loop μ-loop
 returns c =
     let s = c .before .before .before .before .args in

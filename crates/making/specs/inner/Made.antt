@@ -1,9 +1,8 @@
--- The book that is made around rows that stand in their places.
+-- The book that is made around rows that stand in their places, in room whose first block is cleared.
 --
--- In order: how many bytes it has, and bytes that are blanked; a block sealed in its place; block 0; a block of rows, and all of
--- them; the book.
+-- In order: how many bytes it has; a block sealed in its place; block 0; a block of rows, and all of them; the book.
 -- Assumes nothing.
-use Prim.Native.Nat.{ℕ, zero, suc, _+_, _*_}
+use Prim.Native.Nat.{ℕ, zero, suc, _+_, _-_, _*_}
 use mathlib.Core.List.{List, _++_}
 use lib.ListN.{take, drop}
 use Rattle.block.specs.Check.{firstSum, secondSum}
@@ -18,10 +17,6 @@ use Rattle.places.specs.inner.Put.{put}
 -- how many bytes the book of so many rows has
 abbrev pub bytesFor : ℕ → ℕ
 bytesFor rows = 512 * (1 + blocksFor rows)
-
--- zeros in the first n bytes, and behind them what stood there
-unfoldable pub blanked : ℕ → List ℕ → List ℕ
-blanked n b = zeros n ++ drop n b
 
 -- both sums of the block that starts at a place, in its last four bytes
 unfoldable pub sealedAt : List ℕ → ℕ → List ℕ
@@ -47,9 +42,17 @@ opening edition p rows =
     ++ (u16Bytes (headMarks p)
     ++ valueBytes (p .margin)))))))))
 
+-- what opens block number k, in which stand so many rows, up to its first place
+abbrev pub rowsOpening : ℕ → ℕ → List ℕ
+rowsOpening k here = ofrs ++ (u16Bytes k ++ (u16Bytes here ++ zeros 20))
+
+-- zeros in the places behind so many rows of the block that starts at a place
+abbrev pub unusedAt : List ℕ → ℕ → ℕ → List ℕ
+unusedAt b at here = put b (at + (28 + here * 32)) (zeros (480 - here * 32))
+
 -- block number k, with so many rows
 unfoldable pub blockMade : List ℕ → ℕ → ℕ → List ℕ
-blockMade b k here = sealedAt (put b (k * 512) (ofrs ++ (u16Bytes k ++ u16Bytes here))) (k * 512)
+blockMade b k here = sealedAt (unusedAt (put b (k * 512) (rowsOpening k here)) (k * 512) here) (k * 512)
 
 -- the first blocks of so many rows
 unfoldable pub blocksMade : List ℕ → ℕ → ℕ → List ℕ

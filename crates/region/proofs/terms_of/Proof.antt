@@ -17,7 +17,13 @@ number-held-requires-4 : tie.Need-number-held-requires-4
 number-held-requires-4 c κs = search needs
 
 returns : tie.Need-returns
-returns c = cc
+returns c =
+    simp (
+      c .number-held4 .ensures,
+      c .before .number-held3 .ensures,
+      c .before .before .number-held2 .ensures,
+      c .before .before .before .number-held .ensures,
+    )
 
 pub terms-of-spec : {M : Type 1} → statement M
 terms-of-spec =

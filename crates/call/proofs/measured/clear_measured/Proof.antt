@@ -4,7 +4,6 @@ use mathlib.Core.Path.{sym, _∙_}
 use borrow.Author.Needs.{needs}
 use Rattle.book.specs.inner.Opening.{Opened}
 use Rattle.call.proofs.Calls.{fault-before, outcome-refused}
-use Rattle.call.proofs.Empty.{outcome-empty}
 use Rattle.call.proofs.measured.clear_measured.Statement.{statement}
 use Rattle.call.proofs.measured.clear_measured.Tie as tie
 
@@ -35,41 +34,20 @@ passed c =
       rows = told .rows;
     }
 
-clear-none-requires : tie.Need-clear-none-requires
-clear-none-requires c κs = search needs
-
-returns-2 : tie.Need-returns-2
-returns-2 c = outcome-empty _ _ _ _ _ _ _ (passed (c .before .before .before)) (search needs) (c .clear-none .ensures)
-
-clear-few-requires : tie.Need-clear-few-requires
-clear-few-requires c κs = (passed (c .before .before .before .before .before), search needs)
+clear-opened-requires : tie.Need-clear-opened-requires
+clear-opened-requires c κs = passed (c .before .before .before)
 
 by-fields-requires : tie.Need-by-fields-requires
-by-fields-requires c κs = search needs
+by-fields-requires c κs = tt
 
 same-length : tie.Need-same-length
-same-length c = search needs
+same-length c = c .before .before .before .before .before .clear-opened .kept .1 .1 .1 .1 .0
 
 same-length-2 : tie.Need-same-length-2
-same-length-2 c = search needs
+same-length-2 c = c .before .before .before .before .before .clear-opened .kept .1 .1 .1 .1 .1 .0
 
-returns-3 : tie.Need-returns-3
-returns-3 c = rw (c .by-fields .ensures) (c .before .before .before .before .before .clear-few .ensures)
-
-clear-many-requires : tie.Need-clear-many-requires
-clear-many-requires c κs = passed (c .before .before .before .before .before)
-
-by-fields-requires-2 : tie.Need-by-fields-requires-2
-by-fields-requires-2 c κs = search needs
-
-same-length-3 : tie.Need-same-length-3
-same-length-3 c = search needs
-
-same-length-4 : tie.Need-same-length-4
-same-length-4 c = search needs
-
-returns-4 : tie.Need-returns-4
-returns-4 c = rw (c .by-fields2 .ensures) (c .before .before .before .before .before .clear-many .ensures)
+returns-2 : tie.Need-returns-2
+returns-2 c = rw (c .by-fields .ensures) (c .before .before .before .before .before .clear-opened .ensures)
 
 pub clear-measured-spec : {M : Type 1} → statement M
 clear-measured-spec =
@@ -79,15 +57,8 @@ clear-measured-spec =
     enum-known-fault
     returns
     enum-told
-    clear-none-requires
-    returns-2
-    clear-few-requires
+    clear-opened-requires
     by-fields-requires
     same-length
     same-length-2
-    returns-3
-    clear-many-requires
-    by-fields-requires-2
-    same-length-3
-    same-length-4
-    returns-4)
+    returns-2)

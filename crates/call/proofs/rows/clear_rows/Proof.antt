@@ -15,7 +15,7 @@ use Rattle.call.proofs.rows.clear_rows.Statement.{statement}
 use Rattle.call.proofs.rows.clear_rows.Tie as tie
 
 buffer-fault-requires : tie.Need-buffer-fault-requires
-buffer-fault-requires c κs = search needs
+buffer-fault-requires c κs = tt
 
 read-rows-requires : tie.Need-read-rows-requires
 read-rows-requires c κs =
@@ -30,7 +30,7 @@ abbrev entry : tie.After-and-then → tie.Start
 entry c = read c .before .before .before .before .before .before .before .before .before .before .before .before .before .before .before .before .before
 
 and-then-requires : tie.Need-and-then-requires
-and-then-requires c κs = search needs
+and-then-requires c κs = tt
 
 -- the rows and the buffers decide
 fault : (c : tie.After-and-then) → let a = entry c .args in
@@ -43,22 +43,22 @@ enum-known-number : tie.Need-enum-known-number
 enum-known-number c = search needs
 
 same-length : tie.Need-same-length
-same-length c = search needs
+same-length c = read (c .before .before .before) .read-rows .kept .1 .1 .1 .1 .0
 
 same-length-2 : tie.Need-same-length-2
-same-length-2 c = search needs
+same-length-2 c = read (c .before .before .before) .read-rows .kept .1 .1 .1 .1 .1 .0
 
 same-length-3 : tie.Need-same-length-3
-same-length-3 c = search needs
+same-length-3 c = read (c .before .before .before) .read-rows .kept .1 .1 .1 .1 .1 .1 .0
 
 same-length-4 : tie.Need-same-length-4
-same-length-4 c = search needs
+same-length-4 c = read (c .before .before .before) .read-rows .kept .1 .1 .1 .1 .1 .1 .1 .0
 
 same-length-5 : tie.Need-same-length-5
-same-length-5 c = search needs
+same-length-5 c = read (c .before .before .before) .read-rows .kept .1 .1 .1 .1 .1 .1 .1 .1 .0
 
 same-length-6 : tie.Need-same-length-6
-same-length-6 c = search needs
+same-length-6 c = read (c .before .before .before) .read-rows .kept .1 .1 .1 .1 .1 .1 .1 .1 .1 .0
 
 returns : tie.Need-returns
 returns c = outcome-refused _ _ _ _ _ (sym (c .before .number .given .1) ∙ fault (c .before .before .before))
@@ -85,8 +85,8 @@ columns c =
 stands : (c : tie.After-enum-told) → let a = entry (c .before .before) .args in
     Stands (contentsOf (a .book .now)) (a .p) (a .rows) (columns c)
 stands c =
-    let tested = c .before .before in
-    opened-stands _ _ _ _ (entry tested .pre .0) _ (columns c) _ (callable c .accepted) (entry tested .pre .1) (read tested .read-rows .ensures)
+    let decided = c .before .before in
+    opened-stands _ _ _ _ (entry decided .pre .0) _ (columns c) _ (callable c .accepted) (entry decided .pre .1) (read decided .read-rows .ensures)
 
 clearing-requires : tie.Need-clearing-requires
 clearing-requires c κs =
@@ -97,29 +97,33 @@ clearing-requires c κs =
       (omega (arith, count, ok .cleared-long), omega (arith, count, ok .committed-long)),
     )
 
+-- where the rows are tested, from the end
+abbrev tested : tie.After-slice-known16 → tie.After-and-then
+tested c = c .before .before .before .before .before .before .before .before .before .before .before .before .before .before .before
+
 same-length-7 : tie.Need-same-length-7
-same-length-7 c = search needs
+same-length-7 c = read (tested c) .read-rows .kept .1 .1 .1 .1 .0
 
 same-length-8 : tie.Need-same-length-8
-same-length-8 c = search needs
+same-length-8 c = read (tested c) .read-rows .kept .1 .1 .1 .1 .1 .0
 
 same-length-9 : tie.Need-same-length-9
-same-length-9 c = search needs
+same-length-9 c = read (tested c) .read-rows .kept .1 .1 .1 .1 .1 .1 .0
 
 same-length-10 : tie.Need-same-length-10
-same-length-10 c = search needs
+same-length-10 c = read (tested c) .read-rows .kept .1 .1 .1 .1 .1 .1 .1 .0
 
 same-length-11 : tie.Need-same-length-11
-same-length-11 c = search needs
+same-length-11 c = read (tested c) .read-rows .kept .1 .1 .1 .1 .1 .1 .1 .1 .0
 
 same-length-12 : tie.Need-same-length-12
-same-length-12 c = search needs
+same-length-12 c = read (tested c) .read-rows .kept .1 .1 .1 .1 .1 .1 .1 .1 .1 .0
 
 same-length-13 : tie.Need-same-length-13
-same-length-13 c = search needs
+same-length-13 c = c .before .before .before .before .clearing .kept .1 .1 .1 .1 .1 .1 .1 .1 .0
 
 same-length-14 : tie.Need-same-length-14
-same-length-14 c = search needs
+same-length-14 c = c .before .before .before .before .clearing .kept .1 .1 .1 .1 .1 .1 .1 .1 .1 .0
 
 returns-2 : tie.Need-returns-2
 returns-2 c =

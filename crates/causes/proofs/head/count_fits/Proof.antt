@@ -24,7 +24,9 @@ add-result c = search needs
 
 returns-2 : tie.Need-returns-2
 unfolding countFits
-returns-2 c = most-held _ _ _ _ _ (c .before .before .offers-in .ensures .0) (c .before .if1 .left) (cc)
+returns-2 c =
+    let offers = c .before .before .offers-in .ensures .0 in
+    most-held _ _ _ _ _ offers (c .before .if1 .left) (simp (c .blocks-for .ensures, offers))
 
 pub count-fits-spec : {M : Type 1} → statement M
 count-fits-spec =

@@ -76,7 +76,22 @@ and-then-requires-4 c κs = search needs
 
 returns : tie.Need-returns
 unfolding lastCause
-returns c = cc
+returns c =
+    let zero = c .before .before .before .before in
+    let highest = zero .before .before in
+    let lowest = highest .before .before in
+    let step = lowest .before .before in
+    simp (
+      c .and-then4 .ensures,
+      c .before .and-then3 .ensures,
+      c .before .before .and-then2 .ensures,
+      c .before .before .before .and-then .ensures,
+      zero .told5 .ensures,
+      highest .told4 .ensures,
+      lowest .told3 .ensures,
+      step .told2 .ensures,
+      step .before .before .before .told .ensures,
+    )
 
 pub last-cause-spec : {M : Type 1} → statement M
 last-cause-spec =

@@ -5,9 +5,10 @@ use Prim.Native.Nat.{_+_, _*_, _≤_, _-_}
 use native.Mathlib.Omega.{arith}
 use lib.Dec.{ltb}
 use borrow.Author.Needs.{needs}
-use Rattle.values.proofs.Firsts.{first-zero, first-add-one}
+use Rattle.values.proofs.Firsts.{first-zero}
 use Rattle.values.specs.Refusals.{first}
 use Rattle.causes.specs.Cause.{placeCause, placesCause}
+use Rattle.causes.proofs.Passes.{first-next}
 use Rattle.causes.proofs.rows.places_cause.Statement.{statement}
 use Rattle.causes.proofs.rows.places_cause.Tie as tie
 
@@ -39,7 +40,9 @@ loop-less : tie.Need-loop-less Inv-loop μ-loop
 loop-less c = search needs
 
 loop-again : tie.Need-loop-again Inv-loop μ-loop
-loop-again c = (search needs, cc (first-add-one _ _))
+loop-again c =
+    let found = c .before .before .before .loop .inv .1 in
+    (search needs, first-next _ _ found (c .before .place-cause .ensures) (c .and-then .ensures))
 
 returns : tie.Need-returns Inv-loop μ-loop
 unfolding placesCause

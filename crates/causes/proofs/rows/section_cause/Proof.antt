@@ -4,10 +4,11 @@ use mathlib.Core.Path.{_≡_, sym, ap, _∙_}
 use Prim.Native.Nat.{_≤_, _-_}
 use native.Mathlib.Omega.{arith}
 use borrow.Author.Needs.{needs}
-use Rattle.values.proofs.Firsts.{first-zero, first-add-one}
+use Rattle.values.proofs.Firsts.{first-zero}
 use Rattle.values.specs.Refusals.{first}
 use Rattle.sections.proofs.Parts.{block-part}
 use Rattle.causes.specs.Cause.{blockCause, sectionCause}
+use Rattle.causes.proofs.Passes.{first-next}
 use Rattle.causes.proofs.rows.section_cause.Statement.{statement}
 use Rattle.causes.proofs.rows.section_cause.Tie as tie
 
@@ -61,7 +62,10 @@ loop-less c = search needs
 
 loop-again : tie.Need-loop-again Inv-loop μ-loop
 unfolding blockCause
-loop-again c = (search needs, cc (first-add-one _ _, block-part _ _))
+loop-again c =
+    let here = c .before .before .before .before in
+    let block = simp (block-part, here .rows-here .ensures) at (c .before .rows-cause .ensures) in
+    (search needs, first-next _ _ (here .before .before .before .loop .inv .1) block (c .and-then .ensures))
 
 returns : tie.Need-returns Inv-loop μ-loop
 unfolding sectionCause

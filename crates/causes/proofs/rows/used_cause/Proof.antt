@@ -35,7 +35,14 @@ and-then-requires-2 c κs = search needs
 
 returns : tie.Need-returns
 unfolding usedCause marked
-returns c = cc
+returns c =
+    simp (
+      c .and-then2 .ensures,
+      c .before .and-then .ensures,
+      c .before .before .last-cause .ensures,
+      c .before .before .before .absent-cause2 .ensures,
+      c .before .before .before .before .absent-cause .ensures,
+    )
 
 pub used-cause-spec : {M : Type 1} → statement M
 used-cause-spec =

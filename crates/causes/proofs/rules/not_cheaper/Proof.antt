@@ -20,7 +20,7 @@ enum-told-2 : tie.Need-enum-told-2
 enum-told-2 c = search needs
 
 returns-2 : tie.Need-returns-2
-returns-2 c = cc
+returns-2 c = simp (c .before .before .before .before .before2 .given .1, c .before .price .given .1)
 
 returns-3 : tie.Need-returns-3
 returns-3 c = search needs

@@ -14,7 +14,7 @@ told-requires : tie.Need-told-requires
 told-requires c κs = search needs
 
 returns : tie.Need-returns
-returns c = cc
+returns c = simp (c .told .ensures, c .before .absent-holds .ensures)
 
 pub absent-cause-spec : {M : Type 1} → statement M
 absent-cause-spec = tie.close (tie.spec absent-holds-requires cast-told told-requires returns)

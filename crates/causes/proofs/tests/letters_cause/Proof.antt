@@ -6,9 +6,10 @@ use native.Mathlib.Omega.{arith}
 use lib.Dec.{eqb}
 use borrow.Author.Needs.{needs}
 use Rattle.block.specs.Bytes.{byte}
-use Rattle.values.proofs.Firsts.{first-zero, first-add-one}
+use Rattle.values.proofs.Firsts.{first-zero}
 use Rattle.values.specs.Refusals.{unless, first}
 use Rattle.causes.specs.Cause.{wrongLetter, lettersCause}
+use Rattle.causes.proofs.Passes.{first-next}
 use Rattle.causes.proofs.tests.letters_cause.Statement.{statement}
 use Rattle.causes.proofs.tests.letters_cause.Tie as tie
 
@@ -43,7 +44,9 @@ loop-less : tie.Need-loop-less Inv-loop μ-loop
 loop-less c = search needs
 
 loop-again : tie.Need-loop-again Inv-loop μ-loop
-loop-again c = (search needs, cc (first-add-one _ _))
+loop-again c =
+    let found = c .before .before .before .before .before .loop .inv .1 in
+    (search needs, first-next _ _ found (c .before .told .ensures) (c .and-then .ensures))
 
 returns : tie.Need-returns Inv-loop μ-loop
 unfolding lettersCause

@@ -17,7 +17,7 @@ is-missing-requires : tie.Need-is-missing-requires
 is-missing-requires c κs = search needs
 
 returns : tie.Need-returns
-returns c = cc
+returns c = simp (c .is-number .ensures, c .before .before .v .given .1)
 
 returns-2 : tie.Need-returns-2
 returns-2 c = search needs

@@ -1,58 +1,58 @@
 -- `put_missing_parameters` puts a form that shows its numbers.
 -- Assumes nothing.
-use borrow.Author.Needs.{needs}
+use mathlib.Core.Path.{refl}
 use Rattle.faultlines.specs.Missing.{missingParametersNumbers}
 use Rattle.wording.proofs.Showing.{showing}
 use Rattle.faultlines.proofs.missing.put_missing_parameters.Statement.{statement}
 use Rattle.faultlines.proofs.missing.put_missing_parameters.Tie as tie
 
 slice-aggregate-put-form : tie.Need-slice-aggregate-put-form
-slice-aggregate-put-form c = search needs
+slice-aggregate-put-form c = refl
 
 given-requires : tie.Need-given-requires
-given-requires c κs = search needs
+given-requires c κs = tt
 
 cast-t17 : tie.Need-cast-t17
-cast-t17 c = search needs
+cast-t17 c = tt
 
 given-requires-2 : tie.Need-given-requires-2
-given-requires-2 c κs = search needs
+given-requires-2 c κs = tt
 
 cast-t20 : tie.Need-cast-t20
-cast-t20 c = search needs
+cast-t20 c = tt
 
 given-requires-3 : tie.Need-given-requires-3
-given-requires-3 c κs = search needs
+given-requires-3 c κs = tt
 
 cast-t23 : tie.Need-cast-t23
-cast-t23 c = search needs
+cast-t23 c = tt
 
 given-requires-4 : tie.Need-given-requires-4
-given-requires-4 c κs = search needs
+given-requires-4 c κs = tt
 
 cast-t26 : tie.Need-cast-t26
-cast-t26 c = search needs
+cast-t26 c = tt
 
 given-requires-5 : tie.Need-given-requires-5
-given-requires-5 c κs = search needs
+given-requires-5 c κs = tt
 
 by-margin-requires : tie.Need-by-margin-requires
-by-margin-requires c κs = search needs
+by-margin-requires c κs = tt
 
 cast-either : tie.Need-cast-either
-cast-either c = search needs
+cast-either c = tt
 
 either-requires : tie.Need-either-requires
-either-requires c κs = search needs
+either-requires c κs = tt
 
 slice-aggregate-put-form-2 : tie.Need-slice-aggregate-put-form-2
-slice-aggregate-put-form-2 c = search needs
+slice-aggregate-put-form-2 c = refl
 
 put-form-requires : tie.Need-put-form-requires
-put-form-requires c κs = search needs
+put-form-requires c κs = tt
 
 same-length : tie.Need-same-length
-same-length c = search needs
+same-length c = c .before .before .put-form .kept .0
 
 returns : tie.Need-returns
 unfolding missingParametersNumbers

@@ -1,57 +1,57 @@
 -- `field_number` picks the number of a field.
 -- Assumes nothing.
-use borrow.Author.Needs.{needs}
+use mir.Facts.{fits-32-64}
 use Rattle.faultlines.specs.Refused.{fieldNumber}
 use Rattle.faultlines.proofs.parameter.field_number.Statement.{statement}
 use Rattle.faultlines.proofs.parameter.field_number.Tie as tie
 
 cast-either : tie.Need-cast-either
-cast-either c = search needs
+cast-either c = fits-32-64 (c .struct-known .given .0)
 
 number-held-requires : tie.Need-number-held-requires
-number-held-requires c κs = search needs
+number-held-requires c κs = tt
 
 cast-either-2 : tie.Need-cast-either-2
-cast-either-2 c = search needs
+cast-either-2 c = fits-32-64 (record { fits = c .number-held .ok })
 
 number-held-requires-2 : tie.Need-number-held-requires-2
-number-held-requires-2 c κs = search needs
+number-held-requires-2 c κs = tt
 
 cast-either-3 : tie.Need-cast-either-3
-cast-either-3 c = search needs
+cast-either-3 c = fits-32-64 (record { fits = c .number-held2 .ok })
 
 number-held-requires-3 : tie.Need-number-held-requires-3
-number-held-requires-3 c κs = search needs
+number-held-requires-3 c κs = tt
 
 cast-either-4 : tie.Need-cast-either-4
-cast-either-4 c = search needs
+cast-either-4 c = fits-32-64 (record { fits = c .number-held3 .ok })
 
 number-held-requires-4 : tie.Need-number-held-requires-4
-number-held-requires-4 c κs = search needs
+number-held-requires-4 c κs = tt
 
 cast-either-5 : tie.Need-cast-either-5
-cast-either-5 c = search needs
+cast-either-5 c = fits-32-64 (record { fits = c .number-held4 .ok })
 
 number-held-requires-5 : tie.Need-number-held-requires-5
-number-held-requires-5 c κs = search needs
+number-held-requires-5 c κs = tt
 
 cast-either-6 : tie.Need-cast-either-6
-cast-either-6 c = search needs
+cast-either-6 c = fits-32-64 (record { fits = c .number-held5 .ok })
 
 either-requires : tie.Need-either-requires
-either-requires c κs = search needs
+either-requires c κs = tt
 
 either-requires-2 : tie.Need-either-requires-2
-either-requires-2 c κs = search needs
+either-requires-2 c κs = tt
 
 either-requires-3 : tie.Need-either-requires-3
-either-requires-3 c κs = search needs
+either-requires-3 c κs = tt
 
 either-requires-4 : tie.Need-either-requires-4
-either-requires-4 c κs = search needs
+either-requires-4 c κs = tt
 
 either-requires-5 : tie.Need-either-requires-5
-either-requires-5 c κs = search needs
+either-requires-5 c κs = tt
 
 returns : tie.Need-returns
 unfolding fieldNumber

@@ -1,34 +1,34 @@
 -- `put_parameter` puts a form that shows its numbers.
 -- Assumes nothing.
-use borrow.Author.Needs.{needs}
+use mathlib.Core.Path.{refl}
 use Rattle.faultlines.specs.Refused.{parameterNumbers}
 use Rattle.wording.proofs.Showing.{showing}
 use Rattle.faultlines.proofs.parameter.put_parameter.Statement.{statement}
 use Rattle.faultlines.proofs.parameter.put_parameter.Tie as tie
 
 cast-ranged : tie.Need-cast-ranged
-cast-ranged c = search needs
+cast-ranged c = tt
 
 field-number-requires : tie.Need-field-number-requires
-field-number-requires c κs = search needs
+field-number-requires c κs = tt
 
 slice-aggregate-put-form : tie.Need-slice-aggregate-put-form
-slice-aggregate-put-form c = search needs
+slice-aggregate-put-form c = refl
 
 either-requires : tie.Need-either-requires
-either-requires c κs = search needs
+either-requires c κs = tt
 
 offset-most-requires : tie.Need-offset-most-requires
-offset-most-requires c κs = search needs
+offset-most-requires c κs = tt
 
 slice-aggregate-put-form-2 : tie.Need-slice-aggregate-put-form-2
-slice-aggregate-put-form-2 c = search needs
+slice-aggregate-put-form-2 c = refl
 
 put-form-requires : tie.Need-put-form-requires
-put-form-requires c κs = search needs
+put-form-requires c κs = tt
 
 same-length : tie.Need-same-length
-same-length c = search needs
+same-length c = c .before .before .put-form .kept .0
 
 returns : tie.Need-returns
 unfolding parameterNumbers

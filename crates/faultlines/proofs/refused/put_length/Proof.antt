@@ -1,28 +1,28 @@
 -- `put_length` puts a form that shows its numbers.
 -- Assumes nothing.
-use borrow.Author.Needs.{needs}
+use mathlib.Core.Path.{refl}
 use Rattle.faultlines.specs.Refused.{lengthNumbers}
 use Rattle.wording.proofs.Showing.{showing}
 use Rattle.faultlines.proofs.refused.put_length.Statement.{statement}
 use Rattle.faultlines.proofs.refused.put_length.Tie as tie
 
 slice-aggregate-put-form : tie.Need-slice-aggregate-put-form
-slice-aggregate-put-form c = search needs
+slice-aggregate-put-form c = refl
 
 cast-either : tie.Need-cast-either
-cast-either c = search needs
+cast-either c = tt
 
 either-requires : tie.Need-either-requires
-either-requires c κs = search needs
+either-requires c κs = tt
 
 slice-aggregate-put-form-2 : tie.Need-slice-aggregate-put-form-2
-slice-aggregate-put-form-2 c = search needs
+slice-aggregate-put-form-2 c = refl
 
 put-form-requires : tie.Need-put-form-requires
-put-form-requires c κs = search needs
+put-form-requires c κs = tt
 
 same-length : tie.Need-same-length
-same-length c = search needs
+same-length c = c .before .before .put-form .kept .0
 
 returns : tie.Need-returns
 unfolding lengthNumbers

@@ -1,23 +1,22 @@
 -- `put_refused_row` puts a form that shows its numbers.
 -- Assumes nothing.
 use mathlib.Core.Path.{refl}
-use borrow.Author.Needs.{needs}
 use Rattle.faultlines.specs.Refused.{refusedRowNumbers}
 use Rattle.wording.proofs.Showing.{showing}
 use Rattle.faultlines.proofs.refused.put_refused_row.Statement.{statement}
 use Rattle.faultlines.proofs.refused.put_refused_row.Tie as tie
 
 slice-aggregate-put-form : tie.Need-slice-aggregate-put-form
-slice-aggregate-put-form c = search needs
+slice-aggregate-put-form c = refl
 
 slice-aggregate-put-form-2 : tie.Need-slice-aggregate-put-form-2
-slice-aggregate-put-form-2 c = search needs
+slice-aggregate-put-form-2 c = refl
 
 put-form-requires : tie.Need-put-form-requires
-put-form-requires c κs = search needs
+put-form-requires c κs = tt
 
 same-length : tie.Need-same-length
-same-length c = search needs
+same-length c = c .before .before .put-form .kept .0
 
 returns : tie.Need-returns
 unfolding refusedRowNumbers

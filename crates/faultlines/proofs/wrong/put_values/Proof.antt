@@ -1,144 +1,90 @@
 -- `put_values` puts a form that shows its numbers.
 -- Assumes nothing.
-use borrow.Author.Needs.{needs}
-use Rattle.faultlines.specs.Wrong.{valuesNumbers}
+use mathlib.Core.Path.{refl}
+use mir.Facts.{fits-32-64}
 use Rattle.wording.proofs.Showing.{showing}
+use Rattle.faultlines.proofs.Values.{values-are}
 use Rattle.faultlines.proofs.wrong.put_values.Statement.{statement}
 use Rattle.faultlines.proofs.wrong.put_values.Tie as tie
 
+beside-requires : tie.Need-beside-requires
+beside-requires c κs = tt
+
+beside-requires-2 : tie.Need-beside-requires-2
+beside-requires-2 c κs = tt
+
+cast-resource : tie.Need-cast-resource
+cast-resource c = fits-32-64 (c .struct-known .given .0)
+
+cast-seller : tie.Need-cast-seller
+cast-seller c = fits-32-64 (c .struct-known2 .given .1 .0)
+
+cast-step : tie.Need-cast-step
+cast-step c = fits-32-64 (c .struct-known3 .given .1 .1 .1 .1 .1 .1 .0)
+
 slice-aggregate-put-form : tie.Need-slice-aggregate-put-form
-slice-aggregate-put-form c = search needs
+slice-aggregate-put-form c = refl
 
-cast-t13 : tie.Need-cast-t13
-cast-t13 c = search needs
+cast-t19 : tie.Need-cast-t19
+cast-t19 c = tt
 
-cast-t15 : tie.Need-cast-t15
-cast-t15 c = search needs
-
-cast-t16 : tie.Need-cast-t16
-cast-t16 c = search needs
-
-cast-t18 : tie.Need-cast-t18
-cast-t18 c = search needs
-
-given-requires : tie.Need-given-requires
-given-requires c κs = search needs
-
-cast-t20 : tie.Need-cast-t20
-cast-t20 c = search needs
-
-number-held-requires : tie.Need-number-held-requires
-number-held-requires c κs = search needs
+cast-t21 : tie.Need-cast-t21
+cast-t21 c = tt
 
 cast-t22 : tie.Need-cast-t22
-cast-t22 c = search needs
-
-given-within-requires : tie.Need-given-within-requires
-given-within-requires c κs = search needs
-
-cast-t25 : tie.Need-cast-t25
-cast-t25 c = search needs
-
-cast-t26 : tie.Need-cast-t26
-cast-t26 c = search needs
+cast-t22 c = fits-32-64 (c .struct-known4 .given .1 .1 .1 .0)
 
 within-requires : tie.Need-within-requires
-within-requires c κs = search needs
+within-requires c κs = tt
 
-cast-t29 : tie.Need-cast-t29
-cast-t29 c = search needs
-
-given-requires-2 : tie.Need-given-requires-2
-given-requires-2 c κs = search needs
-
-cast-t31 : tie.Need-cast-t31
-cast-t31 c = search needs
-
-number-held-requires-2 : tie.Need-number-held-requires-2
-number-held-requires-2 c κs = search needs
-
-cast-t33 : tie.Need-cast-t33
-cast-t33 c = search needs
-
-given-within-requires-2 : tie.Need-given-within-requires-2
-given-within-requires-2 c κs = search needs
-
-cast-t36 : tie.Need-cast-t36
-cast-t36 c = search needs
+cast-t25 : tie.Need-cast-t25
+cast-t25 c = tt
 
 step-within-requires : tie.Need-step-within-requires
-step-within-requires c κs = search needs
+step-within-requires c κs = tt
 
 either-requires : tie.Need-either-requires
-either-requires c κs = search needs
+either-requires c κs = tt
 
 either-requires-2 : tie.Need-either-requires-2
-either-requires-2 c κs = search needs
-
-cast-t41 : tie.Need-cast-t41
-cast-t41 c = search needs
-
-cast-t42 : tie.Need-cast-t42
-cast-t42 c = search needs
+either-requires-2 c κs = tt
 
 slice-aggregate-put-form-2 : tie.Need-slice-aggregate-put-form-2
-slice-aggregate-put-form-2 c = search needs
+slice-aggregate-put-form-2 c = refl
 
 put-form-requires : tie.Need-put-form-requires
-put-form-requires c κs = search needs
+put-form-requires c κs = tt
 
 same-length : tie.Need-same-length
-same-length c = search needs
+same-length c = c .before .before .put-form .kept .0
 
 returns : tie.Need-returns
-unfolding valuesNumbers
 returns c =
-    let step = c .before .before .before .before .before .before in
-    let block = step .before .before .before in
-    let price = block .before .before .before .before .before in
+    let step = c .before .before .before .before in
+    let within = step .before .before .before in
+    let beside = within .before .before .before .before .before .before .before in
     showing _ _ (c .before .before .put-form .ensures)
-    (simp (
-      step .either2 .ensures,
-      step .before .either .ensures,
-      step .before .before .step-within .ensures,
-      block .given-within2 .ensures,
-      block .before .number-held2 .ensures,
-      block .before .before .given2 .ensures,
-      block .before .before .before .within .ensures,
-      price .given-within .ensures,
-      price .before .number-held .ensures,
-      price .before .before .given .ensures,
-    ))
+    (values-are _ _ _ _ _ _ _ _ (beside .before .beside .ensures) (beside .beside2 .ensures) (within .within .ensures)
+    (step .before .before .step-within .ensures) (step .before .either .ensures) (step .either2 .ensures))
 
 pub put-values-spec : {M : Type 1} → statement M
 put-values-spec =
     tie.close
     (tie.spec
+    beside-requires
+    beside-requires-2
+    cast-resource
+    cast-seller
+    cast-step
     slice-aggregate-put-form
-    cast-t13
-    cast-t15
-    cast-t16
-    cast-t18
-    given-requires
-    cast-t20
-    number-held-requires
+    cast-t19
+    cast-t21
     cast-t22
-    given-within-requires
-    cast-t25
-    cast-t26
     within-requires
-    cast-t29
-    given-requires-2
-    cast-t31
-    number-held-requires-2
-    cast-t33
-    given-within-requires-2
-    cast-t36
+    cast-t25
     step-within-requires
     either-requires
     either-requires-2
-    cast-t41
-    cast-t42
     slice-aggregate-put-form-2
     put-form-requires
     same-length

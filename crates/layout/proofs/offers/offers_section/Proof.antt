@@ -28,7 +28,12 @@ offers-last-requires c κs = search needs
 
 returns : tie.Need-returns
 unfolding blockOf
-returns c = cc
+returns c =
+    simp (
+      c .offers-last .ensures,
+      c .before .edition-in .ensures .0,
+      c .before .before .offers-in .ensures .0,
+    )
 
 pub offers-section-spec : {M : Type 1} → statement M
 offers-section-spec =

@@ -5,7 +5,7 @@ use Rattle.values.specs.Contents.{noOffer}
 use Rattle.values.specs.declared.Verdict.{Verdict}
 use Rattle.values.specs.declared.head.Parameters.{Parameters}
 use Rattle.writer.specs.inner.Opening.{openingFault}
-use Rattle.lent.specs.inner.Drafts.{draftBy, draftOf}
+use Rattle.lent.specs.inner.Drafts.{beforeOf, draftBy, draftOf}
 use borrow.Author.Needs.{needs}
 use Rattle.lent.proofs.tested.begin.Statement.{statement}
 use Rattle.lent.proofs.tested.begin.Tie as tie
@@ -24,7 +24,7 @@ unfolding draftOf
 returns c =
     let a = c .before .before .before .args in
     c .drafted .ensures
-    ∙ ap (λ (v : Verdict). draftBy v (a .rows) noOffer)
+    ∙ ap (λ (v : Verdict). draftBy v (a .rows) (beforeOf noOffer))
     (c .before .opening-fault .ensures ∙ ap (λ (p : Parameters). openingFault (a .edition) p (a .rows)) (c .before .before .parameters-in .ensures))
 
 pub begin-spec : {M : Type 1} → statement M

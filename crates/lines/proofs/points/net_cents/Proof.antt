@@ -2,16 +2,16 @@
 -- Assumes nothing.
 use Rattle.lines.specs.Points.{netCents}
 use native.Mathlib.Omega.{arith}
-use borrow.Author.Needs.{needs}
+use mir.Facts.{fits-32-64}
 use Rattle.lines.proofs.Weights.{net-most}
 use Rattle.lines.proofs.points.net_cents.Statement.{statement}
 use Rattle.lines.proofs.points.net_cents.Tie as tie
 
 excess-requires : tie.Need-excess-requires
-excess-requires c κs = search needs
+excess-requires c κs = tt
 
 cast-result : tie.Need-cast-result
-cast-result c = search needs
+cast-result c = fits-32-64 (record { fits = c .excess .ok })
 
 mul-result : tie.Need-mul-result
 mul-result c = omega (arith, net-most (c .excess .result) (c .before .args .quarters) (omega arith) (c .before .pre))

@@ -11,19 +11,19 @@ add-next : tie.Need-add-next
 add-next c = search needs
 
 slice-aggregate-put-form : tie.Need-slice-aggregate-put-form
-slice-aggregate-put-form c = search needs
+slice-aggregate-put-form c = refl
 
 cast-t9 : tie.Need-cast-t9
-cast-t9 c = search needs
+cast-t9 c = tt
 
 slice-aggregate-put-form-2 : tie.Need-slice-aggregate-put-form-2
-slice-aggregate-put-form-2 c = search needs
+slice-aggregate-put-form-2 c = refl
 
 put-form-requires : tie.Need-put-form-requires
-put-form-requires c κs = search needs
+put-form-requires c κs = tt
 
 same-length : tie.Need-same-length
-same-length c = search needs
+same-length c = c .before .before .put-form .kept .0
 
 returns : tie.Need-returns
 unfolding yearNumbers

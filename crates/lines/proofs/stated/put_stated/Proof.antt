@@ -1,79 +1,46 @@
 -- `put_stated` puts a form that shows its numbers.
 -- Assumes nothing.
-use Rattle.lines.specs.Stated.{statedNumbers}
+use mathlib.Core.Path.{refl}
+use mir.Facts.{fits-32-64}
 use Rattle.wording.proofs.Showing.{showing}
-use borrow.Author.Needs.{needs}
+use Rattle.lines.proofs.Stating.{stated-are}
 use Rattle.lines.proofs.stated.put_stated.Statement.{statement}
 use Rattle.lines.proofs.stated.put_stated.Tie as tie
 
-yearly-requires : tie.Need-yearly-requires
-yearly-requires c κs = search needs
-
-yearly-requires-2 : tie.Need-yearly-requires-2
-yearly-requires-2 c κs = search needs
-
-valued-requires : tie.Need-valued-requires
-valued-requires c κs = search needs
-
-valued-requires-2 : tie.Need-valued-requires-2
-valued-requires-2 c κs = search needs
-
-by-margin-requires : tie.Need-by-margin-requires
-by-margin-requires c κs = search needs
-
-margined-requires : tie.Need-margined-requires
-margined-requires c κs = search needs
+told-requires : tie.Need-told-requires
+told-requires c κs = tt
 
 slice-aggregate-put-form : tie.Need-slice-aggregate-put-form
-slice-aggregate-put-form c = search needs
+slice-aggregate-put-form c = refl
 
-cast-t23 : tie.Need-cast-t23
-cast-t23 c = search needs
+cast-t14 : tie.Need-cast-t14
+cast-t14 c = tt
 
-cast-t24 : tie.Need-cast-t24
-cast-t24 c = search needs
+cast-t15 : tie.Need-cast-t15
+cast-t15 c = fits-32-64 (c .struct-known .given .0)
 
 slice-aggregate-put-form-2 : tie.Need-slice-aggregate-put-form-2
-slice-aggregate-put-form-2 c = search needs
+slice-aggregate-put-form-2 c = refl
 
 put-form-requires : tie.Need-put-form-requires
-put-form-requires c κs = search needs
+put-form-requires c κs = tt
 
 same-length : tie.Need-same-length
-same-length c = search needs
+same-length c = c .before .before .put-form .kept .0
 
 returns : tie.Need-returns
-unfolding statedNumbers
 returns c =
-    let last = c .before .before .before .before .before .before .before in
     showing _ _ (c .before .before .put-form .ensures)
-    (simp (
-      last .margined .ensures .words,
-      last .margined .ensures .shows,
-      last .before .by-margin .ensures,
-      last .before .before .valued2 .ensures .words,
-      last .before .before .valued2 .ensures .shows,
-      last .before .before .before .valued .ensures .words,
-      last .before .before .before .valued .ensures .shows,
-      last .before .before .before .before .yearly2 .ensures .words,
-      last .before .before .before .before .yearly2 .ensures .shows,
-      last .before .before .before .before .before .yearly .ensures .words,
-      last .before .before .before .before .before .yearly .ensures .shows,
-    ))
+    (stated-are _ _ _ _ (c .before .before .before .before .before .before .before .told .ensures))
 
 pub put-stated-spec : {M : Type 1} → statement M
 put-stated-spec =
     tie.close
     (tie.spec
-    yearly-requires
-    yearly-requires-2
-    valued-requires
-    valued-requires-2
-    by-margin-requires
-    margined-requires
+    told-requires
     slice-aggregate-put-form
-    cast-t23
-    cast-t24
+    cast-t14
+    cast-t15
     slice-aggregate-put-form-2
     put-form-requires
     same-length

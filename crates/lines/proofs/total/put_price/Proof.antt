@@ -1,56 +1,52 @@
 -- `put_price` puts a form that shows its numbers.
 -- Assumes nothing.
-use Rattle.lines.specs.Total.{priceNumbers}
+use mathlib.Core.Path.{refl}
+use Rattle.lines.proofs.Answered.{price-are}
 use Rattle.wording.proofs.Showing.{showing}
-use borrow.Author.Needs.{needs}
+use mir.Facts.{fits-32-64}
 use Rattle.lines.proofs.total.put_price.Statement.{statement}
 use Rattle.lines.proofs.total.put_price.Tie as tie
 
 priced-requires : tie.Need-priced-requires
-priced-requires c κs = search needs
+priced-requires c κs = tt
 
 setter-requires : tie.Need-setter-requires
-setter-requires c κs = search needs
+setter-requires c κs = tt
 
 slice-aggregate-put-form : tie.Need-slice-aggregate-put-form
-slice-aggregate-put-form c = search needs
+slice-aggregate-put-form c = refl
 
 cast-either : tie.Need-cast-either
-cast-either c = search needs
+cast-either c = tt
 
 either-requires : tie.Need-either-requires
-either-requires c κs = search needs
+either-requires c κs = tt
 
 cast-t17 : tie.Need-cast-t17
-cast-t17 c = search needs
+cast-t17 c = fits-32-64 (c .struct-known4 .given .1 .0 .1 .0)
 
 cast-t18 : tie.Need-cast-t18
-cast-t18 c = search needs
+cast-t18 c = fits-32-64 (c .struct-known5 .given .1 .0 .1 .1 .1 .1 .0)
 
 either-requires-2 : tie.Need-either-requires-2
-either-requires-2 c κs = search needs
+either-requires-2 c κs = tt
 
 slice-aggregate-put-form-2 : tie.Need-slice-aggregate-put-form-2
-slice-aggregate-put-form-2 c = search needs
+slice-aggregate-put-form-2 c = refl
 
 put-form-requires : tie.Need-put-form-requires
-put-form-requires c κs = search needs
+put-form-requires c κs = tt
 
 same-length : tie.Need-same-length
-same-length c = search needs
+same-length c = c .before .before .put-form .kept .0
 
 returns : tie.Need-returns
-unfolding priceNumbers
 returns c =
-    let last = c .before .before .before .before in
+    let set = c .before .before .before .before in
+    let more = set .before .before .before in
+    let sets = more .before .before .before .before in
     showing _ _ (c .before .before .put-form .ensures)
-    (simp (
-      last .either2 .ensures,
-      last .before .before .before .either .ensures,
-      last .before .before .before .before .before .before .before .setter .ensures,
-      last .before .before .before .before .before .before .before .before .before .before .priced .ensures .words,
-      last .before .before .before .before .before .before .before .before .before .before .priced .ensures .shows,
-    ))
+    (price-are _ _ _ _ _ _ (sets .before .before .before .priced .ensures) (sets .setter .ensures) (more .either .ensures) (set .either2 .ensures))
 
 pub put-price-spec : {M : Type 1} → statement M
 put-price-spec =

@@ -1,40 +1,41 @@
 -- `put_total` puts a form that shows its numbers.
 -- Assumes nothing.
+use mathlib.Core.Path.{refl}
 use Rattle.lines.specs.Total.{totalNumbers}
 use Rattle.wording.proofs.Showing.{showing}
-use borrow.Author.Needs.{needs}
+use mir.Facts.{fits-32-64}
 use Rattle.lines.proofs.total.put_total.Statement.{statement}
 use Rattle.lines.proofs.total.put_total.Tie as tie
 
 tenth-past-requires : tie.Need-tenth-past-requires
-tenth-past-requires c κs = search needs
+tenth-past-requires c κs = tt
 
 slice-aggregate-put-form : tie.Need-slice-aggregate-put-form
-slice-aggregate-put-form c = search needs
+slice-aggregate-put-form c = refl
 
 cast-t13 : tie.Need-cast-t13
-cast-t13 c = search needs
+cast-t13 c = fits-32-64 (c .struct-known .given .1 .0 .0)
 
 first-true-requires : tie.Need-first-true-requires
-first-true-requires c κs = search needs
+first-true-requires c κs = tt
 
 cast-t17 : tie.Need-cast-t17
-cast-t17 c = search needs
+cast-t17 c = fits-32-64 (c .struct-known3 .given .0 .0 .0)
 
 cast-t18 : tie.Need-cast-t18
-cast-t18 c = search needs
+cast-t18 c = fits-32-64 (c .struct-known4 .given .1 .1 .0 .0 .0)
 
 cast-t19 : tie.Need-cast-t19
-cast-t19 c = search needs
+cast-t19 c = fits-32-64 (c .struct-known5 .given .1 .1 .0 .1 .0)
 
 slice-aggregate-put-form-2 : tie.Need-slice-aggregate-put-form-2
-slice-aggregate-put-form-2 c = search needs
+slice-aggregate-put-form-2 c = refl
 
 put-form-requires : tie.Need-put-form-requires
-put-form-requires c κs = search needs
+put-form-requires c κs = tt
 
 same-length : tie.Need-same-length
-same-length c = search needs
+same-length c = c .before .before .put-form .kept .0
 
 returns : tie.Need-returns
 unfolding totalNumbers

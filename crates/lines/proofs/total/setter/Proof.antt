@@ -1,18 +1,17 @@
 -- `setter` is its definition.
 -- Assumes nothing.
 use Rattle.lines.specs.Total.{setter}
-use borrow.Author.Needs.{needs}
 use Rattle.lines.proofs.total.setter.Statement.{statement}
 use Rattle.lines.proofs.total.setter.Tie as tie
 
 either-requires : tie.Need-either-requires
-either-requires c κs = search needs
+either-requires c κs = tt
 
 either-requires-2 : tie.Need-either-requires-2
-either-requires-2 c κs = search needs
+either-requires-2 c κs = tt
 
 either-requires-3 : tie.Need-either-requires-3
-either-requires-3 c κs = search needs
+either-requires-3 c κs = tt
 
 returns : tie.Need-returns
 unfolding setter

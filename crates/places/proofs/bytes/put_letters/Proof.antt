@@ -1,61 +1,48 @@
+-- `put_letters` puts four letters one by one.
+-- Assumes nothing.
 use lib.ListN.{length-set}
 use Rattle.places.proofs.Puts.{put-four}
 use native.Mathlib.Omega.{arith}
 use borrow.Author.Needs.{needs}
 use Rattle.places.proofs.bytes.put_letters.Statement.{statement}
 use Rattle.places.proofs.bytes.put_letters.Tie as tie
-use Rattle.places.proofs.bytes.put_letters.Reads as reads
-use Rattle.places.proofs.bytes.put_letters.Lts as lts
 
--- src/bytes.rt:59:13
 element-copy-out-b : tie.Need-element-copy-out-b
 element-copy-out-b c = search needs
 
--- src/bytes.rt:59:5
 slice-write-b : tie.Need-slice-write-b
 slice-write-b c = search needs
 
--- src/bytes.rt:60:17
 element-copy-out-b-2 : tie.Need-element-copy-out-b-2
 element-copy-out-b-2 c = search needs
 
--- src/bytes.rt:60:7
 add-b : tie.Need-add-b
 add-b c = search needs
 
--- src/bytes.rt:60:5
 slice-write-b-2 : tie.Need-slice-write-b-2
 slice-write-b-2 c = simp length-set (omega (arith, c .before .before .pre .0))
 
--- src/bytes.rt:61:17
 element-copy-out-b-3 : tie.Need-element-copy-out-b-3
 element-copy-out-b-3 c = search needs
 
--- src/bytes.rt:61:7
 add-b-2 : tie.Need-add-b-2
 add-b-2 c = search needs
 
--- src/bytes.rt:61:5
 slice-write-b-3 : tie.Need-slice-write-b-3
 slice-write-b-3 c = simp length-set (omega (arith, c .before .before .before .pre .0))
 
--- src/bytes.rt:62:17
 element-copy-out-b-4 : tie.Need-element-copy-out-b-4
 element-copy-out-b-4 c = search needs
 
--- src/bytes.rt:62:7
 add-b-3 : tie.Need-add-b-3
 add-b-3 c = search needs
 
--- src/bytes.rt:62:5
 slice-write-b-4 : tie.Need-slice-write-b-4
 slice-write-b-4 c = simp length-set (omega (arith, c .before .before .before .before .pre .0))
 
--- src/bytes.rt:55:1
 same-length : tie.Need-same-length
 same-length c = search needs
 
--- src/bytes.rt:55:1
 returns : tie.Need-returns
 returns c =
     let s = c .before .before .before .before in

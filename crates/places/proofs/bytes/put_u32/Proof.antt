@@ -1,29 +1,22 @@
+-- `put_u32` puts two halves of 16 bits.
+-- Assumes nothing.
 use Rattle.places.proofs.Fields.{put-u32}
-use native.Mathlib.Omega.{arith}
 use borrow.Author.Needs.{needs}
 use Rattle.places.proofs.bytes.put_u32.Statement.{statement}
 use Rattle.places.proofs.bytes.put_u32.Tie as tie
-use Rattle.places.proofs.bytes.put_u32.Reads as reads
-use Rattle.places.proofs.bytes.put_u32.Lts as lts
-use Rattle.places.proofs.bytes.put_u16.Reads as put-u16-reads
 
--- src/bytes.rt:23:5
 put-u16-requires : tie.Need-put-u16-requires
 put-u16-requires c κs = search needs
 
--- src/bytes.rt:24:16
 add-put-u16 : tie.Need-add-put-u16
 add-put-u16 c = search needs
 
--- src/bytes.rt:24:5
 put-u16-requires-2 : tie.Need-put-u16-requires-2
 put-u16-requires-2 c κs = search needs
 
--- src/bytes.rt:19:1
 same-length : tie.Need-same-length
 same-length c = search needs
 
--- src/bytes.rt:19:1
 returns : tie.Need-returns
 returns c =
     let a = c .before .before .before .before .before .before .before .before .before .args in

@@ -1,37 +1,28 @@
+-- `put_u64` puts two halves of 32 bits.
+-- Assumes nothing.
 use Rattle.places.proofs.Fields.{put-u64}
-use native.Mathlib.Omega.{arith}
 use borrow.Author.Needs.{needs}
 use Rattle.places.proofs.bytes.put_u64.Statement.{statement}
 use Rattle.places.proofs.bytes.put_u64.Tie as tie
-use Rattle.places.proofs.bytes.put_u64.Reads as reads
-use Rattle.places.proofs.bytes.put_u64.Lts as lts
-use Rattle.places.proofs.bytes.put_u32.Reads as put-u32-reads
 
--- src/bytes.rt:32:20
 cast-put-u32 : tie.Need-cast-put-u32
 cast-put-u32 c = search needs
 
--- src/bytes.rt:32:5
 put-u32-requires : tie.Need-put-u32-requires
 put-u32-requires c κs = search needs
 
--- src/bytes.rt:33:16
 add-put-u32 : tie.Need-add-put-u32
 add-put-u32 c = search needs
 
--- src/bytes.rt:33:24
 cast-put-u32-2 : tie.Need-cast-put-u32-2
 cast-put-u32-2 c = search needs
 
--- src/bytes.rt:33:5
 put-u32-requires-2 : tie.Need-put-u32-requires-2
 put-u32-requires-2 c κs = search needs
 
--- src/bytes.rt:28:1
 same-length : tie.Need-same-length
 same-length c = search needs
 
--- src/bytes.rt:28:1
 returns : tie.Need-returns
 returns c =
     let a = c .before .before .before .before .before .before .before .before .before .args in

@@ -1,15 +1,13 @@
+-- `step_byte` tells a step's byte by the edition.
+-- Assumes nothing.
 use mathlib.Core.Path.{refl}
 use borrow.Author.Tests.{eq-eqb, ne-eqb}
 use Rattle.places.proofs.place.step_byte.Statement.{statement}
 use Rattle.places.proofs.place.step_byte.Tie as tie
-use Rattle.places.proofs.place.step_byte.Reads as reads
-use Rattle.places.proofs.place.step_byte.Lts as lts
 
--- src/place.rt:39:1
 returns : tie.Need-returns
 returns c = rw (eq-eqb _ _ (c .if1 .taken)) refl
 
--- src/place.rt:39:1
 returns-2 : tie.Need-returns-2
 returns-2 c = rw (ne-eqb _ _ (c .if1 .left)) refl
 

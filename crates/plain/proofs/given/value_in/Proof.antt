@@ -8,7 +8,7 @@ returns : tie.Need-returns
 returns c = value-given _ (c .if1 .taken)
 
 returns-2 : tie.Need-returns-2
-returns-2 c = value-missing _ (c .before .before .if1 .left) (c .if2 .taken)
+returns-2 c = value-missing _ (c .if2 .taken)
 
 returns-3 : tie.Need-returns-3
 returns-3 c = value-neither _ (c .before .before .if1 .left) (c .if2 .left)

@@ -14,10 +14,10 @@ enum-told : tie.Need-enum-told
 enum-told c = search needs
 
 returns : tie.Need-returns
-returns c = cc
+returns c = simp (c .price-given .ensures, c .before .before .p .given .1)
 
 returns-2 : tie.Need-returns-2
-returns-2 c = cc
+returns-2 c = simp (c .enum-told .given .1)
 
 pub price-spec : {M : Type 1} → statement M
 price-spec = tie.close (tie.spec enum-known-p price-given-requires enum-told returns returns-2)

@@ -1,31 +1,31 @@
 -- `put_division` puts a form that shows its numbers.
 -- Assumes nothing.
+use mathlib.Core.Path.{refl}
 use Rattle.rowlines.specs.Division.{divisionNumbers}
 use Rattle.wording.proofs.Showing.{showing}
-use borrow.Author.Needs.{needs}
 use Rattle.rowlines.proofs.division.put_division.Statement.{statement}
 use Rattle.rowlines.proofs.division.put_division.Tie as tie
 
 cast-some : tie.Need-cast-some
-cast-some c = search needs
+cast-some c = tt
 
 slice-aggregate-put-form : tie.Need-slice-aggregate-put-form
-slice-aggregate-put-form c = search needs
+slice-aggregate-put-form c = refl
 
 first-true-requires : tie.Need-first-true-requires
-first-true-requires c κs = search needs
+first-true-requires c κs = tt
 
 cast-t25 : tie.Need-cast-t25
-cast-t25 c = search needs
+cast-t25 c = tt
 
 slice-aggregate-put-form-2 : tie.Need-slice-aggregate-put-form-2
-slice-aggregate-put-form-2 c = search needs
+slice-aggregate-put-form-2 c = refl
 
 put-form-requires : tie.Need-put-form-requires
-put-form-requires c κs = search needs
+put-form-requires c κs = tt
 
 same-length : tie.Need-same-length
-same-length c = search needs
+same-length c = c .before .before .put-form .kept .0
 
 returns : tie.Need-returns
 unfolding divisionNumbers

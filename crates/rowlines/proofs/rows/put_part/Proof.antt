@@ -1,37 +1,38 @@
 -- `put_part` puts a form that shows its numbers.
 -- Assumes nothing.
+use mathlib.Core.Path.{refl}
 use Rattle.rowlines.specs.Rows.{partNumbers}
 use Rattle.wording.proofs.Showing.{showing}
-use borrow.Author.Needs.{needs}
+use mir.Facts.{fits-32-64}
 use Rattle.rowlines.proofs.rows.put_part.Statement.{statement}
 use Rattle.rowlines.proofs.rows.put_part.Tie as tie
 
 slice-aggregate-put-form : tie.Need-slice-aggregate-put-form
-slice-aggregate-put-form c = search needs
+slice-aggregate-put-form c = refl
 
 cast-t11 : tie.Need-cast-t11
-cast-t11 c = search needs
+cast-t11 c = fits-32-64 (c .struct-known .given .0)
 
 cast-t12 : tie.Need-cast-t12
-cast-t12 c = search needs
+cast-t12 c = fits-32-64 (c .struct-known2 .given .1 .0)
 
 first-true-requires : tie.Need-first-true-requires
-first-true-requires c κs = search needs
+first-true-requires c κs = tt
 
 cast-t17 : tie.Need-cast-t17
-cast-t17 c = search needs
+cast-t17 c = fits-32-64 (c .struct-known5 .given .0)
 
 cast-t18 : tie.Need-cast-t18
-cast-t18 c = search needs
+cast-t18 c = fits-32-64 (c .struct-known6 .given .1 .0)
 
 slice-aggregate-put-form-2 : tie.Need-slice-aggregate-put-form-2
-slice-aggregate-put-form-2 c = search needs
+slice-aggregate-put-form-2 c = refl
 
 put-form-requires : tie.Need-put-form-requires
-put-form-requires c κs = search needs
+put-form-requires c κs = tt
 
 same-length : tie.Need-same-length
-same-length c = search needs
+same-length c = c .before .before .put-form .kept .0
 
 returns : tie.Need-returns
 unfolding partNumbers

@@ -3,24 +3,23 @@
 use mathlib.Core.Path.{refl}
 use Rattle.rowlines.specs.Levels.{ladderNumbers}
 use Rattle.wording.proofs.Showing.{showing}
-use borrow.Author.Needs.{needs}
 use Rattle.rowlines.proofs.rungs.put_ladder.Statement.{statement}
 use Rattle.rowlines.proofs.rungs.put_ladder.Tie as tie
 
 slice-aggregate-put-form : tie.Need-slice-aggregate-put-form
-slice-aggregate-put-form c = search needs
+slice-aggregate-put-form c = refl
 
 cast-t11 : tie.Need-cast-t11
-cast-t11 c = search needs
+cast-t11 c = tt
 
 slice-aggregate-put-form-2 : tie.Need-slice-aggregate-put-form-2
-slice-aggregate-put-form-2 c = search needs
+slice-aggregate-put-form-2 c = refl
 
 put-form-requires : tie.Need-put-form-requires
-put-form-requires c κs = search needs
+put-form-requires c κs = tt
 
 same-length : tie.Need-same-length
-same-length c = search needs
+same-length c = c .before .before .put-form .kept .0
 
 returns : tie.Need-returns
 unfolding ladderNumbers

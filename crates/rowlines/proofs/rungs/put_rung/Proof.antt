@@ -1,43 +1,44 @@
 -- `put_rung` puts a form that shows its numbers.
 -- Assumes nothing.
+use mathlib.Core.Path.{refl}
 use Rattle.rowlines.specs.Levels.{rungNumbers}
 use Rattle.wording.proofs.Showing.{showing}
-use borrow.Author.Needs.{needs}
+use mir.Facts.{fits-32-64}
 use Rattle.rowlines.proofs.rungs.put_rung.Statement.{statement}
 use Rattle.rowlines.proofs.rungs.put_rung.Tie as tie
 
 slice-aggregate-put-form : tie.Need-slice-aggregate-put-form
-slice-aggregate-put-form c = search needs
+slice-aggregate-put-form c = refl
 
 cast-t11 : tie.Need-cast-t11
-cast-t11 c = search needs
+cast-t11 c = fits-32-64 (c .struct-known .given .0)
 
 cast-t12 : tie.Need-cast-t12
-cast-t12 c = search needs
+cast-t12 c = fits-32-64 (c .struct-known2 .given .1 .0)
 
 cast-t13 : tie.Need-cast-t13
-cast-t13 c = search needs
+cast-t13 c = fits-32-64 (c .struct-known3 .given .1 .1 .0)
 
 cast-either : tie.Need-cast-either
-cast-either c = search needs
+cast-either c = tt
 
 either-requires : tie.Need-either-requires
-either-requires c κs = search needs
+either-requires c κs = tt
 
 cast-t21 : tie.Need-cast-t21
-cast-t21 c = search needs
+cast-t21 c = tt
 
 cast-t22 : tie.Need-cast-t22
-cast-t22 c = search needs
+cast-t22 c = fits-32-64 (c .struct-known7 .given .1 .1 .1 .0)
 
 slice-aggregate-put-form-2 : tie.Need-slice-aggregate-put-form-2
-slice-aggregate-put-form-2 c = search needs
+slice-aggregate-put-form-2 c = refl
 
 put-form-requires : tie.Need-put-form-requires
-put-form-requires c κs = search needs
+put-form-requires c κs = tt
 
 same-length : tie.Need-same-length
-same-length c = search needs
+same-length c = c .before .before .put-form .kept .0
 
 returns : tie.Need-returns
 unfolding rungNumbers

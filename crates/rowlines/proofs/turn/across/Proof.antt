@@ -1,5 +1,6 @@
 -- `across` tells the numbers of a rival.
 -- Assumes nothing.
+use mir.Facts.{fits-32-64}
 use borrow.Author.Needs.{needs}
 use Rattle.rowlines.proofs.turn.across.Statement.{statement}
 use Rattle.rowlines.proofs.turn.across.Tie as tie
@@ -8,13 +9,13 @@ enum-known-rival : tie.Need-enum-known-rival
 enum-known-rival c = search needs
 
 either-requires : tie.Need-either-requires
-either-requires c κs = search needs
+either-requires c κs = tt
 
 cast-t9 : tie.Need-cast-t9
-cast-t9 c = search needs
+cast-t9 c = fits-32-64 (c .struct-known .given .1 .1 .0)
 
 cast-t10 : tie.Need-cast-t10
-cast-t10 c = search needs
+cast-t10 c = fits-32-64 (c .struct-known2 .given .1 .1 .1 .0)
 
 cast-either : tie.Need-cast-either
 cast-either c = search needs
@@ -29,7 +30,7 @@ add-either-2 : tie.Need-add-either-2
 add-either-2 c = search needs
 
 either-requires-2 : tie.Need-either-requires-2
-either-requires-2 c κs = search needs
+either-requires-2 c κs = tt
 
 enum-told : tie.Need-enum-told
 enum-told c = search needs

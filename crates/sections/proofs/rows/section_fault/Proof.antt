@@ -62,10 +62,7 @@ as-block : (c : tie.After-rows-hold Inv-loop μ-loop) →
     let j = c .before .before .before .before .before .before .loop .j in
     let t = args .section in
     c .rows-hold .result ≡ rowsHold t (blockOf (args .book .now) (t .first + j)) (t .number + j) (rowsHere (t .rows) j)
-as-block c =
-    let args = c .before .before .before .before .before .before .before .before .before .args in
-    let j = c .before .before .before .before .before .before .loop .j in
-    cc (block-part (args .book .now) (args .section .first + j))
+as-block c = simp (block-part, c .before .rows-here .ensures) at (c .rows-hold .ensures)
 
 returns : tie.Need-returns Inv-loop μ-loop
 unfolding sectionFault blockFault

@@ -29,7 +29,16 @@ value-at-requires-5 c κs = search needs
 
 returns : tie.Need-returns
 unfolding parametersOf marked
-returns c = cc
+returns c =
+    let cost = c .before .before .before .before in
+    simp (
+      c .value-at5 .ensures,
+      c .before .value-at4 .ensures,
+      c .before .before .value-at3 .ensures,
+      c .before .before .before .value-at2 .ensures,
+      cost .value-at .ensures,
+      cost .before .u16-at .ensures .0,
+    )
 
 pub parameters-in-spec : {M : Type 1} → statement M
 parameters-in-spec =

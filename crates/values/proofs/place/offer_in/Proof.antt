@@ -35,7 +35,17 @@ step-of-requires c κs = search needs
 
 returns : tie.Need-returns
 unfolding offerOf marked
-returns c = cc
+returns c =
+    let price = c .before .before .before .before in
+    simp (
+      c .step-of .ensures,
+      c .before .u64-at .ensures,
+      c .before .before .value-at2 .ensures,
+      c .before .before .before .u32-at3 .ensures .0,
+      price .value-at .ensures,
+      price .before .u32-at2 .ensures .0,
+      price .before .before .u32-at .ensures .0,
+    )
 
 pub offer-in-spec : {M : Type 1} → statement M
 offer-in-spec =
