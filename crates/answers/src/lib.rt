@@ -1,4 +1,6 @@
 // Answers as plain structs of numbers. A field that has no value holds all ones.
+#![tactic(auto)]
+
 ghost use Rattle.std.specs.Prelude.{◌≡◌};
 ghost use Rattle.call.specs.declared.Answer.TheVariants.{Cleared};
 ghost use Rattle.answers.specs.Answers.{clearing_kind, clearing_cents, exported};

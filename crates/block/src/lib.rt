@@ -1,4 +1,6 @@
 // A block of 512 bytes, and the numbers, letters and sums in it.
+#![tactic(auto)]
+
 pub mod bytes;
 pub mod check;
 mod columns;

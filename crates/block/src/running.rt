@@ -4,7 +4,7 @@ ghost use Rattle.block.specs.Bytes.{byte};
 ghost use Rattle.block.specs.Running.{running_sum, running_total};
 
 // What stands on the whiteboard: the running sum and the total.
-#[derive(Drop)]
+#[derive(Clone, Copy)]
 pub struct Running {
     pub sum: u16,
     pub total: u16,

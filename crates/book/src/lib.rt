@@ -1,4 +1,6 @@
 // The first fault of a book, and whether a book is sound.
+#![tactic(auto)]
+
 ghost use Rattle.std.specs.Prelude.{◌≡◌};
 ghost use Rattle.values.specs.declared.Verdict.TheVariants.{Passed};
 ghost use Rattle.layout.specs.Form.{length_fault};
@@ -14,7 +16,7 @@ use values::head::{Parameters, parameters_in};
 use values::{Verdict, and_then};
 
 // What a book says before its rows: the first fault of it, the edition, the parameters, and how many rows follow.
-#[derive(Drop)]
+#[derive(Clone, Copy)]
 pub struct Opening {
     pub fault: Verdict,
     pub edition: u32,

@@ -1,4 +1,6 @@
 // The calendar of delivery years.
+#![tactic(auto)]
+
 ghost use Rattle.std.specs.Prelude.{◌≡◌, ◌≤◌};
 ghost use Rattle.calendar.specs.Year.{leap, days_of};
 

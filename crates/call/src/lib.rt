@@ -1,4 +1,6 @@
 // The call: a book of bytes and two result buffers go in; cleared megawatts, the price and the payments come out.
+#![tactic(auto)]
+
 mod measured;
 mod rows;
 
@@ -11,7 +13,7 @@ use sale::Clearing;
 use values::Verdict;
 
 // What a call answers: the clearing, or the number and the place of the refusal and nothing else.
-#[derive(Drop)]
+#[derive(Clone, Copy)]
 pub enum Answer {
     Cleared(Clearing),
     Refused(u32, u32),

@@ -1,4 +1,6 @@
 // Why refusal 3 refused a block: which test of its layout fails first, and at which byte. And which rule of steps a row breaks.
+#![tactic(auto)]
+
 mod head;
 mod rows;
 pub mod rules;

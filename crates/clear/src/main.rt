@@ -1,5 +1,7 @@
 // Reads a book from standard input and writes what it clears, or its refusal. Where the input cannot be read there is no book,
 // and so no answer: that, and an answer that is not taken, is one line on standard error.
+#![tactic(auto)]
+
 use input::read_input;
 use libc::{STDERR_FILENO, STDIN_FILENO, STDOUT_FILENO};
 use report::put_report;

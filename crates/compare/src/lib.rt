@@ -1,5 +1,7 @@
 // Whether losers matter between two books: one function of their bytes, which says that the theorem applies or what comes first that
 // keeps it from applying.
+#![tactic(auto)]
+
 mod same;
 mod walk;
 
@@ -20,7 +22,7 @@ use values::Verdict;
 use values::head::parameters_in;
 
 // What a comparison of two books says. Rows count from 0.
-#[derive(Drop)]
+#[derive(Clone, Copy)]
 pub enum Comparison {
     // the theorem applies: the first book's price, and how many offers at or below it both books share
     Applies(u32, u32),

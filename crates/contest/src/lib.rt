@@ -2,6 +2,8 @@
 //
 // No sort: for each key a limit is found such that who contends under it wins and who contends at it goes on to the next
 // key. A row stands at 0 where it is out, at 1 where it contends and at 2 where it has won.
+#![tactic(auto)]
+
 mod count;
 mod keys;
 mod limit;

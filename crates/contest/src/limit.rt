@@ -13,7 +13,7 @@ use crate::count::under;
 use crate::keys::{highest_to, lowest_from};
 
 // Two numbers, and how many contend under each.
-#[derive(Drop)]
+#[derive(Clone, Copy)]
 pub struct KeyBracket {
     pub low: u32,
     pub few: u32,
@@ -22,7 +22,7 @@ pub struct KeyBracket {
 }
 
 // A limit, and how many contend under it.
-#[derive(Drop)]
+#[derive(Clone, Copy)]
 pub struct Parting {
     pub limit: u32,
     pub won: u32,

@@ -1,5 +1,7 @@
 // A sound book in the other edition, in room that a caller lends. The room's first block is cleared once nothing refuses the book; its
 // rows are put into their places there, in the other edition, and the book is made around them as the writer makes it.
+#![tactic(auto)]
+
 ghost use Rattle.std.specs.Prelude.{◌≡◌, cond, ◌≤◌, eqb, length};
 ghost use Rattle.values.specs.declared.Verdict.TheVariants.{Passed};
 ghost use Rattle.layout.specs.Read.{row_offers, contents_of};

@@ -7,7 +7,7 @@ use crate::Curve;
 use units::CentsPerMwDay;
 
 // A price between cents: the whole cents and remainder / divisor of a cent.
-#[derive(Drop)]
+#[derive(Clone, Copy)]
 pub struct ExactPrice {
     pub cents: CentsPerMwDay,
     pub remainder: u32,
@@ -16,7 +16,7 @@ pub struct ExactPrice {
 }
 
 // What a curve says of a quantity, between cents.
-#[derive(Drop)]
+#[derive(Clone, Copy)]
 pub enum ExactCurvePrice {
     Price(ExactPrice),
     // Past Q3 nothing is bought.

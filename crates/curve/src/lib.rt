@@ -1,4 +1,6 @@
 // The Variable Resource Requirement curve: its three points and its price at a quantity.
+#![tactic(auto)]
+
 pub mod exact;
 
 ghost use Rattle.std.specs.Prelude.{◌≡◌, ◌*◌, ◌≤◌, ◌<◌};
@@ -13,7 +15,7 @@ use crate::exact::exact_price;
 use units::{CentsPerMwDay, DollarsPerMwYear};
 
 // What the region's curve is made from, every value given and in range.
-#[derive(Drop)]
+#[derive(Clone, Copy)]
 pub struct Terms {
     pub cost: DollarsPerMwYear,
     pub offset: DollarsPerMwYear,
@@ -25,7 +27,7 @@ pub struct Terms {
 
 // The weights of an edition of the tariff: what multiplies the net cost at points 1 and 2, in quarters, and how far the
 // three quantities stand under and over the requirement, in hundredths of a percent.
-#[derive(Drop)]
+#[derive(Clone, Copy)]
 pub struct Weights {
     pub first: u32,
     pub second: u32,
@@ -59,7 +61,7 @@ impl Weights {
 pub const WHOLE: u32 = 10000;
 
 // The points (Q1, P1) and (Q2, P2), and Q3, at which the price is 0.
-#[derive(Drop)]
+#[derive(Clone, Copy)]
 pub struct Curve {
     pub p1: CentsPerMwDay,
     pub p2: CentsPerMwDay,
@@ -69,7 +71,7 @@ pub struct Curve {
 }
 
 // What a curve says of a quantity, in whole cents. `exact::price_at` says it between cents.
-#[derive(Drop)]
+#[derive(Clone, Copy)]
 pub enum CurvePrice {
     Price(CentsPerMwDay),
     // Past Q3 nothing is bought.

@@ -1,5 +1,7 @@
 // Reads a book from standard input and writes its page for a person: what an analyst would work by hand. Where the input cannot be
 // read there is no book to explain: that, and a page that is not all taken, is one line on standard error.
+#![tactic(auto)]
+
 use input::read_input;
 use libc::{STDERR_FILENO, STDIN_FILENO, STDOUT_FILENO};
 use numbers::lesser_size;

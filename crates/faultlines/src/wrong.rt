@@ -11,7 +11,7 @@ use values::{Value, number_held};
 use wording::word::{either, given};
 
 // A value beside its range, as the numbers that are shown: whether it is given, its number, and 1 where it is out of the range.
-#[derive(Drop)]
+#[derive(Clone, Copy)]
 struct Ranged {
     given: u64,
     number: u64,

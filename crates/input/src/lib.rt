@@ -1,8 +1,10 @@
 // An input, read to its end: a read that fails is told from an input that has ended.
+#![tactic(auto)]
+
 ghost use Rattle.io.specs.Counts.{IsPrefixLen};
 
 // What was read: how many bytes, and whether a read failed before the input ended.
-#[derive(Drop)]
+#[derive(Clone, Copy)]
 pub struct Input {
     pub length: usize,
     pub failed: bool,

@@ -8,7 +8,7 @@ ghost use Rattle.ladder.specs.inner.Found.{found_in, price_at, Cheap};
 use numbers::{greater, lesser};
 
 // A price that rows have.
-#[derive(Drop)]
+#[derive(Clone, Copy)]
 pub enum Found {
     At(u32),
     Nothing,

@@ -10,7 +10,7 @@ use levels::supply::supply_at;
 use numbers::{excess, lesser};
 
 // A price level: its price, what is offered at it, what it receives of the total, and what is offered at all higher prices.
-#[derive(Drop)]
+#[derive(Clone, Copy)]
 pub struct Rung {
     pub price: u32,
     pub offered: u32,
@@ -18,7 +18,7 @@ pub struct Rung {
     pub higher: u32,
 }
 
-#[derive(Drop)]
+#[derive(Clone, Copy)]
 pub enum RungAt {
     Reached(Rung),
     // there are no more prices
@@ -26,7 +26,7 @@ pub enum RungAt {
 }
 
 // What is offered below the lowest rung, and one of the rungs.
-#[derive(Drop)]
+#[derive(Clone, Copy)]
 pub struct Ladder {
     pub lower: u32,
     pub rung: RungAt,

@@ -1,1 +1,2 @@
 // Mathematics that belongs to no one function: its theorems stand in specs/.
+#![tactic(auto)]

@@ -1,5 +1,7 @@
 // The form of a book of bytes: its length, its checks and its layout, refusals 1, 2 and 3; and the reader of a row's own
 // bytes.
+#![tactic(auto)]
+
 pub mod form;
 pub mod head;
 pub mod offers;

@@ -1,5 +1,7 @@
 // A book of either edition written from plain structs into room that a caller lends. The rows are tested one by one; where nothing
 // refuses them the room's first block is cleared, each row is put into its place, and the book is made around them.
+#![tactic(auto)]
+
 mod alone;
 mod row;
 pub mod tested;

@@ -11,7 +11,7 @@ use values::{Value, Verdict};
 use writer::opening_fault;
 
 // What the next row is tested against: the number, the price and the step of the row before it.
-#[derive(Drop)]
+#[derive(Clone, Copy)]
 pub struct Before {
     pub resource: u32,
     pub price: Value,
@@ -20,7 +20,7 @@ pub struct Before {
 
 // A book that is to be written: the first fault found so far; how many rows are to be tested or put, which are none where it is
 // refused before its rows are looked at, and where a row is refused are those before it; what the next row is tested against.
-#[derive(Drop)]
+#[derive(Clone, Copy)]
 pub struct Draft {
     pub fault: Verdict,
     pub rows: usize,

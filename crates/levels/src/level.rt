@@ -13,7 +13,7 @@ use numbers::lesser;
 
 // The level at which a total stops: the total, the level's price, what it receives of the total, what is offered at it,
 // and what is offered at it or below.
-#[derive(Drop)]
+#[derive(Clone, Copy)]
 pub struct Level {
     pub total: u32,
     pub price: u32,

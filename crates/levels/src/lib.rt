@@ -1,4 +1,6 @@
 // What rows offer at their price levels, and where the curve leaves a total among them.
+#![tactic(auto)]
+
 pub mod level;
 mod reach;
 pub mod supply;

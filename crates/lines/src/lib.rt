@@ -4,6 +4,8 @@
 // The forms stand here as they are read, with marks for the numbers (crate `forms`). Every zero has its reason beside it, what
 // is missing has words and no number, and no line is longer than 80 letters. A contract says which numbers are shown; how they
 // are worded is for tests to say.
+#![tactic(auto)]
+
 pub mod points;
 pub mod sold;
 pub mod stated;

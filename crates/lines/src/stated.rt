@@ -9,7 +9,7 @@ use values::head::Parameters;
 use wording::word::{margined, valued, yearly};
 
 // The parameters that a book states, as the numbers that are shown: for each the words for it and its number.
-#[derive(Drop)]
+#[derive(Clone, Copy)]
 struct Stated {
     cost_word: u64,
     cost: u64,

@@ -10,7 +10,7 @@ use reasons::stop::{Next, Stop};
 use wording::word::{either, first_true, priced};
 
 // The tenth past a total: whether there is none, the curve price there and what is offered up to it.
-#[derive(Drop)]
+#[derive(Clone, Copy)]
 struct Further {
     none: u64,
     price: u64,

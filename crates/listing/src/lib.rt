@@ -1,4 +1,6 @@
 // What a book says, in range or not: its edition, its parameters, the number of its rows, and each row.
+#![tactic(auto)]
+
 ghost use Rattle.std.specs.Prelude.{◌≡◌};
 ghost use Rattle.listing.specs.Listed.{value_out, offer_out, contents_out, contents_refused, read_fault, exported_contents, rows_filled, row_out};
 ghost use Rattle.listing.specs.inner.Listed.{HasRow};

@@ -1,5 +1,7 @@
 // A book made in room that is lent, around rows that were put into their places: what block 0 says, which was cleared before, what
 // opens each block of rows, zeros in the places that no row has, and both sums of each block.
+#![tactic(auto)]
+
 ghost use Rattle.std.specs.Prelude.{◌≡◌, ◌+◌, ◌*◌, ◌≤◌, length};
 ghost use Rattle.sections.specs.Section.{blocks_for};
 ghost use Rattle.encoding.specs.Numbers.{zeros};

@@ -13,7 +13,7 @@ use numbers::excess;
 
 // A price, with what is offered strictly below it, all of which clears; and a price up to which the total is looked for, with
 // how much is offered up to it.
-#[derive(Drop)]
+#[derive(Clone, Copy)]
 pub struct PriceBracket {
     pub from: u32,
     pub below: u32,

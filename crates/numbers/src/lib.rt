@@ -1,6 +1,8 @@
 // Two numbers compared: the lesser, the greater, and by how much one is over the other.
 //
 // Each is a function of values, so that a loop over rows that calls one runs in lanes.
+#![tactic(auto)]
+
 ghost use Rattle.std.specs.Prelude.{◌≡◌, ◌-◌, max, min};
 
 // The lesser of two numbers.

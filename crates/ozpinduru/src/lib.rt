@@ -1,4 +1,6 @@
 // What callers in other languages link.
+#![tactic(auto)]
+
 pub mod compared;
 pub mod converted;
 pub mod explained;

@@ -4,6 +4,8 @@
 // Each function puts its lines over the room from a place on and answers the place behind them. What does not fit is not put, and
 // the place goes on all the same, so that it says how long the text is. The lines and their wording are those of crates `lines`,
 // `rowlines` and `faultlines`; which numbers a page shows, and in which order, is what is promised here.
+#![tactic(auto)]
+
 mod row;
 mod texts;
 

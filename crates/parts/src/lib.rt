@@ -1,4 +1,6 @@
 // Each row's part of a total, rounded down.
+#![tactic(auto)]
+
 ghost use Rattle.std.specs.Prelude.{◌≡◌, ◌*◌, ◌/◌, ◌≤◌, ◌<◌, length};
 ghost use Rattle.laws.specs.Filled.{filled};
 ghost use Rattle.parts.specs.inner.Parts.{part_of, row_part};

@@ -10,7 +10,7 @@ pub const NO_AMOUNT: u64 = 18446744073709551615;
 
 // A value that can be left out: kind 1 with its number, or kind 4.
 #[repr(C)]
-#[derive(Drop)]
+#[derive(Clone, Copy)]
 pub struct OzpValue {
     pub kind: u32,
     pub number: u32,
@@ -18,7 +18,7 @@ pub struct OzpValue {
 
 // The parameters of a region.
 #[repr(C)]
-#[derive(Drop)]
+#[derive(Clone, Copy)]
 pub struct OzpParameters {
     pub year: u32,
     pub cost: OzpValue,
@@ -31,7 +31,7 @@ pub struct OzpParameters {
 // What a call answers. Quantities are tenths of a megawatt, the price is in cents per MW-day, amounts are mills; `rows` is the
 // number of offers.
 #[repr(C)]
-#[derive(Drop)]
+#[derive(Clone, Copy)]
 pub struct OzpAnswer {
     pub make_whole: u64,
     pub daily: u64,
@@ -46,7 +46,7 @@ pub struct OzpAnswer {
 
 // The three points of a curve.
 #[repr(C)]
-#[derive(Drop)]
+#[derive(Clone, Copy)]
 pub struct OzpCurve {
     pub kind: u32,
     pub p1: u32,
@@ -61,7 +61,7 @@ pub struct OzpCurve {
 
 // The price of a curve at a quantity: whole cents, and remainder / divisor of a cent.
 #[repr(C)]
-#[derive(Drop)]
+#[derive(Clone, Copy)]
 pub struct OzpPrice {
     pub kind: u32,
     pub cents: u32,
@@ -73,7 +73,7 @@ pub struct OzpPrice {
 
 // A row of a book; its step is 1 in a book of edition 1.
 #[repr(C)]
-#[derive(Drop)]
+#[derive(Clone, Copy)]
 pub struct OzpRow {
     pub stamp: u64,
     pub resource: u32,
@@ -86,7 +86,7 @@ pub struct OzpRow {
 
 // What a book says besides its rows.
 #[repr(C)]
-#[derive(Drop)]
+#[derive(Clone, Copy)]
 pub struct OzpContents {
     pub kind: u32,
     pub rows: u32,
@@ -98,7 +98,7 @@ pub struct OzpContents {
 
 // A text in room that the caller lends: how many bytes it has.
 #[repr(C)]
-#[derive(Drop)]
+#[derive(Clone, Copy)]
 pub struct OzpText {
     pub bytes: u64,
     pub kind: u32,
@@ -108,7 +108,7 @@ pub struct OzpText {
 
 // The comparison of two books.
 #[repr(C)]
-#[derive(Drop)]
+#[derive(Clone, Copy)]
 pub struct OzpComparison {
     pub kind: u32,
     pub price: u32,

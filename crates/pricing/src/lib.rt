@@ -1,4 +1,6 @@
 // The clearing price, or that there is none.
+#![tactic(auto)]
+
 ghost use Rattle.std.specs.Prelude.{◌≡◌, ◌≤◌};
 ghost use Rattle.curve.specs.Shape.{Shaped};
 ghost use Rattle.curve.specs.Price.{demand_of};
@@ -9,7 +11,7 @@ use levels::level::Level;
 use units::CentsPerMwDay;
 
 // What a clearing says of its price. Where nothing clears there is none, and none is no number.
-#[derive(Drop)]
+#[derive(Clone, Copy)]
 pub enum ClearingPrice {
     Price(CentsPerMwDay),
     NoPrice,

@@ -1,4 +1,6 @@
 // The rows of a section: read once into columns, with their values' faults and a repeated resource among those before.
+#![tactic(auto)]
+
 mod lanes;
 mod put;
 mod tested;

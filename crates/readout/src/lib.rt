@@ -1,6 +1,8 @@
 // What can be read of a book whose form is right, whether it is accepted or not: what block 0 states, and the offer of a row.
 //
 // Every public function takes a book of bytes and looks at its form first, so that it asks nothing of its caller.
+#![tactic(auto)]
+
 ghost use Rattle.std.specs.Prelude.{◌≡◌, ◌≤◌, ◌<◌, length};
 ghost use Rattle.values.specs.Contents.{offer_at};
 ghost use Rattle.layout.specs.Form.{form_fault, edition_of};
@@ -15,7 +17,7 @@ use values::head::{Parameters, parameters_in};
 use values::place::{Offer, offer_in};
 
 // What block 0 states: the edition, the parameters, and how many offers follow.
-#[derive(Drop)]
+#[derive(Clone, Copy)]
 pub enum Head {
     Stated(u32, Parameters, u32),
     // refused by 1 to 3: nothing in it is to be trusted
@@ -23,7 +25,7 @@ pub enum Head {
 }
 
 // The offer of a row.
-#[derive(Drop)]
+#[derive(Clone, Copy)]
 pub enum RowOffer {
     Offered(Offer),
     // no such row, or a book refused by 1 to 3

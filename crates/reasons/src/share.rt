@@ -10,7 +10,7 @@ use numbers::{excess, lesser};
 
 // What a row's level receives and offers in all, its exact part of that rounded down, and what rounding down leaves: the
 // part is (quantity times amount) over sum, and the remainder is over sum too.
-#[derive(Drop)]
+#[derive(Clone, Copy)]
 pub struct Share {
     pub amount: u32,
     pub sum: u32,
@@ -18,14 +18,14 @@ pub struct Share {
     pub remainder: u64,
 }
 
-#[derive(Drop)]
+#[derive(Clone, Copy)]
 pub enum RowShare {
     Shares(Share),
     NoRow,
 }
 
 // What a price level receives of a total, and what is offered at it.
-#[derive(Drop)]
+#[derive(Clone, Copy)]
 pub struct Received {
     pub amount: u32,
     pub sum: u32,

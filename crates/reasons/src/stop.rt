@@ -11,14 +11,14 @@ use market::total::cleared_level;
 use units::CentsPerMwDay;
 
 // A tenth of a megawatt: the curve price there, and everything offered at that price or below.
-#[derive(Drop)]
+#[derive(Clone, Copy)]
 pub struct Tenth {
     pub price: CentsPerMwDay,
     pub offered: u32,
 }
 
 // The tenth past a total.
-#[derive(Drop)]
+#[derive(Clone, Copy)]
 pub enum Next {
     Bought(Tenth),
     // the total is the curve's last point, and nothing is bought past it
@@ -26,7 +26,7 @@ pub enum Next {
 }
 
 // Where a total stops: the curve, the price level at which it stops, the total's own tenth and the next one.
-#[derive(Drop)]
+#[derive(Clone, Copy)]
 pub struct Stop {
     pub curve: Curve,
     pub level: Level,

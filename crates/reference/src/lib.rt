@@ -1,1 +1,2 @@
 // No code: the cases that are proved over the definitions, in one table (proofs/Starred.antt).
+#![tactic(auto)]

@@ -1,4 +1,6 @@
 // The region's requirement curve: the one that its parameters select.
+#![tactic(auto)]
+
 ghost use Rattle.std.specs.Prelude.{◌≡◌};
 ghost use Rattle.curve.specs.Shape.{Shaped};
 ghost use Rattle.limits.specs.Ranges.{Ranged};

@@ -1,4 +1,6 @@
 // The first row with step 1 whose resource number stands in an earlier row.
+#![tactic(auto)]
+
 mod flags;
 
 ghost use Rattle.std.specs.Prelude.{◌≡◌, ◌≤◌, length, get_or};

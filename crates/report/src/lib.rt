@@ -1,4 +1,6 @@
 // What the call answers for a book, as lines of text in one buffer.
+#![tactic(auto)]
+
 mod lines;
 
 ghost use Rattle.std.specs.Prelude.{◌≡◌, ◌+◌, ◌*◌, ◌/◌, ◌-◌, ◌≤◌, length};

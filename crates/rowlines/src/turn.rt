@@ -8,7 +8,7 @@ use turns::turn::{Rival, Turn};
 use wording::word::{either, first_true};
 
 // What is said of the row at the other side of the cut: how it is named, its resource and its step, and what decides.
-#[derive(Drop)]
+#[derive(Clone, Copy)]
 struct Facing {
     named: u64,
     resource: u64,
@@ -39,7 +39,7 @@ fn across(edition: u32, gets: bool, rival: Rival) -> Facing
 
 // What is said of a turn: the words for the spare tenths, the row's place and among how many, the tenths that are spare, whether it
 // gets one, and the row at the other side of the cut.
-#[derive(Drop)]
+#[derive(Clone, Copy)]
 struct Taken {
     shared: u64,
     place: u64,

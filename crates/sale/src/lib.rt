@@ -1,12 +1,14 @@
 // What the rows of a book sell, what they commit and what is paid, told from their columns and the parameters. No function here
 // takes the book.
+#![tactic(auto)]
+
 pub mod payment;
 pub mod sell;
 
 use pricing::ClearingPrice;
 
 // What a book clears. Quantities are tenths of a megawatt, amounts mills.
-#[derive(Drop)]
+#[derive(Clone, Copy)]
 pub struct Clearing {
     // X
     pub total: u32,

@@ -12,7 +12,7 @@ use pricing::{ClearingPrice, clearing_price};
 use shares::share_out;
 
 // The total and the price of a sale.
-#[derive(Drop)]
+#[derive(Clone, Copy)]
 pub struct Sale {
     pub total: u32,
     pub price: ClearingPrice,

@@ -1,4 +1,6 @@
 // Sections of a book: the rows of one kind, in blocks of their own, and refusal 3 of those blocks.
+#![tactic(auto)]
+
 pub mod marks;
 pub mod rows;
 pub mod section;

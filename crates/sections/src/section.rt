@@ -5,7 +5,7 @@ ghost use Rattle.sections.specs.Section.{blocks_for, rows_here};
 use crate::PLACES;
 
 // The rule of a used place's last four bytes, of which the last is zero in every kind of row.
-#[derive(Drop)]
+#[derive(Clone, Copy)]
 pub struct LastBytes {
     // byte 28, the marks, is at most this: the bits above the marks of the kind are zero
     pub marks: u8,
@@ -35,7 +35,7 @@ impl LastBytes {
 }
 
 // Rows of one kind: where they stand, how many there are, and what their blocks and places look like.
-#[derive(Drop)]
+#[derive(Clone, Copy)]
 pub struct Section {
     // the four letters that open each of its blocks
     pub letters: [u8; 4],

@@ -1,4 +1,6 @@
 // What a row commits and what is paid, in mills a day.
+#![tactic(auto)]
+
 ghost use Rattle.std.specs.Prelude.{◌≡◌, ◌-◌, ◌≤◌, length};
 ghost use Rattle.laws.specs.Filled.{filled};
 ghost use Rattle.laws.specs.Sum.{sum_to};

@@ -1,4 +1,6 @@
 // What each row clears of a total: whole under the level at which the total stops, nothing over it, and at it a share.
+#![tactic(auto)]
+
 mod spare;
 
 ghost use Rattle.std.specs.Prelude.{◌≡◌, ◌≤◌, length};

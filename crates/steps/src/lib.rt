@@ -1,4 +1,6 @@
 // The rules of steps: a row past step 1 follows the row before it.
+#![tactic(auto)]
+
 ghost use Rattle.std.specs.Prelude.{◌≡◌};
 ghost use Rattle.steps.specs.Steps.{not_cheaper, flexible, step_follows};
 

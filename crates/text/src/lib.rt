@@ -2,6 +2,8 @@
 //
 // Each function puts a text at a place, all of it where it fits from there to the end and else nothing, and answers the place
 // behind it. No place that is answered lies past the end, so a caller goes on from it, and lends `&out[..at]`, with no test.
+#![tactic(auto)]
+
 mod number;
 
 ghost use Rattle.std.specs.Prelude.{[], ◌∷◌};

@@ -1,4 +1,6 @@
 // Who gets the spare tenths of a price level, in order, and why, over columns of rows.
+#![tactic(auto)]
+
 mod level;
 pub mod order;
 pub mod place;

@@ -5,7 +5,7 @@ ghost use Rattle.turns.specs.inner.Contending.{contender_of, ahead_of, decided_o
 use reasons::share::Received;
 
 // What a row contends for a spare tenth of its level with.
-#[derive(Drop)]
+#[derive(Clone, Copy)]
 pub struct Contender {
     pub remainder: u64,
     pub stamp: u64,

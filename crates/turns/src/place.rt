@@ -11,7 +11,7 @@ use crate::order::Contender;
 use crate::standing::{contender_at, rank_at};
 
 // Who stands at a place.
-#[derive(Drop)]
+#[derive(Clone, Copy)]
 pub enum Placed {
     Held(Contender),
     // no row of the price has that place

@@ -13,7 +13,7 @@ use crate::spare::{contenders_at, spares_at};
 use crate::standing::{contender_at, rank_at};
 
 // The row at the other side of the cut, and what decides against it: 0 the remainders, 1 the stamps, 2 the resources, 3 the steps.
-#[derive(Drop)]
+#[derive(Clone, Copy)]
 pub enum Rival {
     Against(Contender, u32),
     // no tenth is spare
@@ -21,7 +21,7 @@ pub enum Rival {
 }
 
 // A row's place, from 0, among how many that contend for how many spare tenths, what the row clears, and its rival.
-#[derive(Drop)]
+#[derive(Clone, Copy)]
 pub struct Turn {
     pub place: u32,
     pub contenders: u32,

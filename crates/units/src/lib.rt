@@ -1,13 +1,15 @@
 // The two units of money, kept apart, and the one conversion between them.
+#![tactic(auto)]
+
 ghost use Rattle.std.specs.Prelude.{◌≡◌, ◌*◌, ◌≤◌};
 ghost use Rattle.units.specs.Conversion.{daily_cents};
 
 // Whole dollars per MW-year of installed capacity: a cost of new entry, a revenue offset.
-#[derive(Drop)]
+#[derive(Clone, Copy)]
 pub struct DollarsPerMwYear(pub u32);
 
 // Whole cents per MW-day of unforced capacity: an offer's price, a clearing price.
-#[derive(Drop)]
+#[derive(Clone, Copy)]
 pub struct CentsPerMwDay(pub u32);
 
 // `quarters` fourths of a yearly amount as a daily price, at an outage rate in hundredths of a percent. Rounded once.

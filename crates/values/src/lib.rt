@@ -1,5 +1,7 @@
 // What a book holds once its bytes are read: values that are given or missing, the region's parameters, an offer; and
 // what a test of a book answers.
+#![tactic(auto)]
+
 pub mod head;
 pub mod place;
 
@@ -12,14 +14,14 @@ ghost use Rattle.values.specs.Refusals.{and_then};
 use block::bytes::u32_at;
 
 // A value that the book can leave out. What is missing is no number.
-#[derive(Drop)]
+#[derive(Clone, Copy)]
 pub enum Value {
     Given(u32),
     Missing,
 }
 
 // What a test of a book answers: it passed, or the refusal's number and place.
-#[derive(Drop)]
+#[derive(Clone, Copy)]
 pub enum Verdict {
     Passed,
     Refused(u32, u32),

@@ -1,5 +1,7 @@
 // Writes a line for each book that its arguments name: whether it is accepted, whether it is sound, and how many of its
 // rows the reader hands back.
+#![tactic(auto)]
+
 ghost use Rattle.std.specs.Prelude.{◌≡◌};
 ghost use Rattle.layout.specs.Form.{form_fault, offer_count};
 ghost use Rattle.verdicts.specs.inner.Handed.{rows_handed};

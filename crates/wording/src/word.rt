@@ -8,7 +8,7 @@ use pricing::ClearingPrice;
 use values::Value;
 
 // The words for a value and its number, which they show or not.
-#[derive(Drop)]
+#[derive(Clone, Copy)]
 pub struct Told {
     pub word: u64,
     pub number: u64,

@@ -1,4 +1,6 @@
 // The refusals in words, and texts in room that a caller lends: what stands behind a text is not touched, and no zero ends it.
+#![tactic(auto)]
+
 ghost use Rattle.std.specs.Prelude.{◌≡◌, ◌≤◌, ◌<◌};
 ghost use Rattle.words.specs.Texts.{text_given, text_refused, no_text, Told};
 ghost use Rattle.words.specs.Words.{bytes_of, words_of};

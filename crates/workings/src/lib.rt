@@ -3,6 +3,8 @@
 //
 // The public function takes a book of bytes and looks at its faults first, so that it asks nothing of its caller. It is the work of
 // one page for one reader: nothing is kept from call to call.
+#![tactic(auto)]
+
 mod joined;
 pub mod row;
 pub mod spares;

@@ -12,14 +12,14 @@ use settle::make_whole;
 use turns::turn::{Turn, turn_at};
 
 // A row's turn, with what it clears; what it commits, in tenths; and its make-whole, in mills a day.
-#[derive(Drop)]
+#[derive(Clone, Copy)]
 pub struct RowWorks {
     pub turn: Turn,
     pub committed: u32,
     pub make_whole: u64,
 }
 
-#[derive(Drop)]
+#[derive(Clone, Copy)]
 pub enum WorkedRow {
     Row(RowWorks),
     // no such row

@@ -10,7 +10,7 @@ use turns::place::{Placed, placed_at};
 use turns::spare::{contenders_at, spares_at};
 
 // How many tenths are spare, how many rows contend for them, and who stands at one place in their order.
-#[derive(Drop)]
+#[derive(Clone, Copy)]
 pub struct Contest {
     pub spares: u32,
     pub contenders: u32,

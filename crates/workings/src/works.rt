@@ -21,7 +21,7 @@ use values::head::Parameters;
 
 // Where the total stops and at which price it sells; the share of one row in its level, and what it works out to; the price
 // levels around the one at which the total stops, with one of them; and the contest for the spare tenths of that one.
-#[derive(Drop)]
+#[derive(Clone, Copy)]
 pub struct Works {
     pub stop: Stop,
     pub price: ClearingPrice,
@@ -32,7 +32,7 @@ pub struct Works {
 }
 
 // The workings of a book, or its refusal.
-#[derive(Drop)]
+#[derive(Clone, Copy)]
 pub enum WorksAnswer {
     Worked(Works),
     // a book that is not accepted has none

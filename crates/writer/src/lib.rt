@@ -1,5 +1,7 @@
 // When the writer of books refuses before it looks at a row. What is made of rows that pass is proved here to be the book that says
 // them.
+#![tactic(auto)]
+
 ghost use Rattle.std.specs.Prelude.{◌≡◌};
 ghost use Rattle.writer.specs.inner.Opening.{opening_fault};
 

@@ -1,0 +1,22 @@
+-- `check_sums` puts the columns together: what each callee ensures, by the laws of Together.
+-- Assumes nothing.
+use native.Mathlib.Nat.{le_refl}
+use borrow.Author.Rules.{rules}
+use Rattle.laws.proofs.Filling.{zeros}
+use Rattle.block.proofs.Together.{doubled-four, sum-together, total-together}
+use Rattle.block.proofs.check.check_sums.Goals as goal
+
+pub returns : goal.returns
+returns c =
+    let s = c.args.s.now in
+    let sums = c.over_columns.ensures in
+    let filling = c.column_sums-totals.ensures.1 in (
+      sum-together s _ (zeros 16) filling (le_refl 16) sums.0 sums.1 c.over_first-first.ensures.0,
+      total-together s _ (zeros 16) filling (le_refl 16) sums.0 sums.1 c.over_first-first.ensures.1
+          (doubled-four _ c.column_sums-totals.ensures.0
+          c.doubled.ensures
+          c.doubled-2.ensures
+          c.doubled-3.ensures
+          c.doubled-rows.ensures)
+          c.added.ensures,
+    )

@@ -1,0 +1,16 @@
+-- `over_rows` runs over one column. The loop's invariant: what the board holds after so many steps, and the place of the row.
+-- Assumes nothing.
+use mathlib.Core.Path.{◌≡◌, ap, ◌∙◌}
+use Prim.Native.Nat.{suc, ◌≤◌, ◌+◌, ◌*◌, ◌-◌}
+use native.Mathlib.Omega.{arith}
+use borrow.Author.Rules.{rules}
+use Rattle.block.specs.Bytes.{byte}
+use Rattle.block.specs.inner.Columns.{in_column}
+use Rattle.block.proofs.Boards.{Board, board-none, board-more, board-sum, board-total}
+use Rattle.block.proofs.columns.over_rows.Given as goal
+
+abbrev pub invariant-loop-passed : goal.invariant-loop-passed
+invariant-loop-passed l = (l.passed ≤ 30) × (l.at + l.passed * 16 ≡ 508 + l.column) × Board (in_column l.s l.column) 30 0 0 l.passed l.board.sum l.board.total
+
+abbrev pub decreases-loop-passed : goal.decreases-loop-passed
+decreases-loop-passed l = 30 - l.passed

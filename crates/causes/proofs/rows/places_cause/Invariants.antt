@@ -1,0 +1,18 @@
+-- `places_cause` finds the first place that fails. The loop's invariant: what was found among the places passed.
+-- Assumes nothing.
+use mathlib.Core.Path.{◌≡◌, sym, ap, ◌∙◌}
+use Prim.Native.Nat.{◌+◌, ◌*◌, ◌≤◌, ◌-◌}
+use native.Mathlib.Omega.{arith}
+use lib.Dec.{ltb}
+use borrow.Author.Rules.{rules}
+use Rattle.values.proofs.Firsts.{first-zero}
+use Rattle.values.specs.Refusals.{first}
+use Rattle.causes.specs.Cause.{place_cause, places_cause}
+use Rattle.causes.proofs.Passes.{first_next}
+use Rattle.causes.proofs.rows.places_cause.Given as goal
+
+abbrev pub invariant-loop-i : goal.invariant-loop-i
+invariant-loop-i l = (l.i ≤ 15) × (l.found ≡ first (λ j. place_cause l.last (ltb j l.here) l.s (28 + j * 32)) l.i)
+
+abbrev pub decreases-loop-i : goal.decreases-loop-i
+decreases-loop-i l = 15 - l.i

@@ -1,0 +1,19 @@
+-- `letters_cause` finds the first letter that differs. The loop's invariant: what was found among the letters passed.
+-- Assumes nothing.
+use mathlib.Core.Path.{◌≡◌, sym, ap, ◌∙◌}
+use Prim.Native.Nat.{◌≤◌, ◌-◌}
+use native.Mathlib.Omega.{arith}
+use lib.Dec.{eqb}
+use borrow.Author.Rules.{rules}
+use Rattle.block.specs.Bytes.{byte}
+use Rattle.values.proofs.Firsts.{first-zero}
+use Rattle.values.specs.Refusals.{unless, first}
+use Rattle.causes.specs.Cause.{wrong_letter, letters_cause}
+use Rattle.causes.proofs.Passes.{first_next}
+use Rattle.causes.proofs.tests.letters_cause.Given as goal
+
+abbrev pub invariant-loop-i : goal.invariant-loop-i
+invariant-loop-i l = (l.i ≤ 4) × (l.found ≡ first (λ j. unless (eqb (byte l.s j) (byte l.letters j)) (wrong_letter j)) l.i)
+
+abbrev pub decreases-loop-i : goal.decreases-loop-i
+decreases-loop-i l = 4 - l.i

@@ -1,0 +1,25 @@
+-- `zeros_cause` finds the first byte that is not zero. The loop's invariant: what was found among the bytes passed.
+-- Assumes nothing.
+use mathlib.Core.Path.{◌≡◌, sym, ap, ◌∙◌}
+use Prim.Native.Nat.{◌+◌, ◌≤◌, ◌-◌}
+use native.Mathlib.Omega.{arith}
+use lib.Dec.{eqb}
+use borrow.Author.Rules.{rules}
+use Rattle.block.specs.Bytes.{byte}
+use Rattle.values.proofs.Firsts.{first-zero}
+use Rattle.values.specs.Refusals.{unless, first}
+use Rattle.causes.specs.Cause.{not_zero, zeros_cause}
+use Rattle.causes.proofs.Passes.{first_next}
+use Rattle.causes.proofs.tests.zeros_cause.Goals as goal
+
+pub loop-i-init : goal.loop-i-init
+loop-i-init c = (search rules, sym (first-zero _))
+
+pub loop-i-preserved : goal.loop-i-preserved
+loop-i-preserved c =
+    let found = c.loop-i.invariant.1 in
+    (search rules, first_next _ _ found c.told.ensures c.and_then-found.ensures)
+
+pub returns : goal.returns
+unfolding zeros_cause
+returns c = c.loop-i.invariant.1 ∙ ap (first _) (omega arith)

@@ -1,0 +1,9 @@
+-- `same_rows` compares the offers of two rows.
+-- Assumes nothing.
+use mathlib.Core.Path.{ap₂, ◌∙◌}
+use Rattle.compare.specs.Same.{same_offer}
+use borrow.Author.Rules.{rules}
+use Rattle.compare.proofs.walk.same_rows.Goals as goal
+
+pub returns : goal.returns
+returns c = c.same_offer.ensures ∙ ap₂ same_offer c.offer_at.ensures c.offer_at-2.ensures

@@ -1,0 +1,22 @@
+-- `under` counts the contenders under a limit. The loop's invariant: those of the rows passed.
+-- Assumes nothing.
+use mathlib.Core.Path.{◌≡◌, ap, ◌∙◌}
+use Prim.Native.Nat.{◌≤◌, ◌-◌}
+use native.Mathlib.Omega.{arith}
+use borrow.Author.Rules.{rules}
+use Rattle.laws.specs.Sum.{sum_where, count_where}
+use Rattle.laws.proofs.Loops.{added_none, added_more}
+use Rattle.contest.specs.inner.Contest.{contenders}
+use Rattle.contest.specs.inner.Sieve.{count_under, key_at}
+use Rattle.contest.proofs.count.under.Goals as goal
+
+pub loop-i-init : goal.loop-i-init
+unfolding count_under count_where sum_where
+loop-i-init c = (omega arith, added_none _, omega arith)
+
+pub loop-i-preserved : goal.loop-i-preserved
+unfolding count_under count_where sum_where
+loop-i-preserved c = (omega arith, added_more _ _ c.loop-i.invariant.1 c.counted-count.ensures.0, omega arith)
+
+pub returns : goal.returns
+returns c = (c.loop-i.invariant.1 ∙ ap (count_under _ _ _) (omega arith), omega arith)

@@ -1,0 +1,13 @@
+-- `look` counts the contenders under a number, which takes the place of one of the two.
+-- Assumes nothing.
+use borrow.Author.Rules.{rules}
+use Rattle.contest.proofs.Closing.{looked-low, looked-high}
+use Rattle.contest.proofs.limit.look.Goals as goal
+
+pub returns-then-count-spare : goal.returns-then-count-spare
+returns-then-count-spare c =
+    looked-low _ _ _ _ c.args.b c.requires.1.0 _ _ c.requires.1.1.0 c.under-count.ensures.0 c.if-count-spare.true
+
+pub returns : goal.returns
+returns c =
+    looked-high _ _ _ _ c.args.b c.requires.1.0 _ _ c.requires.1.1.1 c.under-count.ensures.0 c.if-count-spare.false c.under-count.ensures.1

@@ -1,0 +1,60 @@
+-- `threshold` finds a key that parts the contenders. The loop's invariant: at most `spare` contend under the first of two
+-- numbers, and more under the second.
+-- Assumes nothing.
+use Prim.Native.Nat.{◌-◌}
+use native.Mathlib.Omega.{arith}
+use borrow.Author.Rules.{rules}
+use borrow.Author.Tests.{ltb-true, ltb-false}
+use Rattle.contest.specs.inner.Contest.{contenders}
+use Rattle.contest.specs.inner.Sieve.{key_at}
+use Rattle.contest.specs.inner.Search.{Between}
+use Rattle.contest.proofs.Parting.{parts-top}
+use Rattle.contest.proofs.Closing.{begun, found-exact, found-next}
+use Rattle.contest.proofs.limit.threshold.Goals as goal
+
+pub returns-then-many-spare : goal.returns-then-many-spare
+returns-then-many-spare c =
+    let known = c.shared_slice_known-1 in
+    record {
+      parts =
+          parts-top _ _ _ _ _
+          (λ i l. c.highest_to-high.ensures.none i l (omega (arith, known.given i)))
+          (omega (arith, c.under-many.ensures.0));
+      won = c.under-many.ensures.0;
+    }
+
+pub loop-b-init : goal.loop-b-init
+loop-b-init c =
+    let counted = c.under-many.ensures in
+    begun _ _ _ _ _ _ _ (λ i l. c.lowest_from.ensures.none i l (omega arith)) counted.0 c.if-many-spare.false counted.1
+
+pub probe-mid-requires : goal.probe-mid-requires
+probe-mid-requires c =
+    let between = c.loop-b.invariant in
+    record {
+      some = c.loop-b-test.true;
+      short = between.short;
+      book = between.book;
+      room = omega (arith, ltb-true);
+    }
+
+pub turn-next-requires : goal.turn-next-requires
+turn-next-requires c = (search rules, (c.loop-b.invariant, omega (arith, c.probe-mid.ensures)))
+
+pub loop-b-smaller : goal.loop-b-smaller
+loop-b-smaller c =
+    let inside = c.probe-mid.ensures in
+    omega (arith, c.turn-next.ensures.nearer inside.0 inside.1, c.loop-b.invariant.ordered)
+
+pub loop-b-preserved : goal.loop-b-preserved
+loop-b-preserved c = c.turn-next.ensures.closer.between
+
+pub returns-else-b-gt1 : goal.returns-else-b-gt1
+returns-else-b-gt1 c =
+    let between = c.loop-b.invariant in
+    record { parts = found-next _ _ _ _ _ between (omega (arith, ltb-false)); won = between.few }
+
+pub returns-after-loop-b : goal.returns-after-loop-b
+returns-after-loop-b c =
+    let between = c.loop-b.invariant in
+    record { parts = found-exact _ _ _ _ _ between (omega arith); won = between.few }

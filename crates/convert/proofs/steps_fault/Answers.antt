@@ -1,0 +1,58 @@
+-- `steps_fault` finds the first row with a step of 2 or more. The loop's invariant: the rows passed had none.
+-- Assumes nothing.
+use mathlib.Core.Path.{◌≡◌, sym, ap, ◌∙◌}
+use mathlib.Core.List.{List}
+use Prim.Native.Nat.{◌-◌, ◌≤◌}
+use lib.ListN.{length}
+use native.Mathlib.Omega.{arith}
+use borrow.Author.Rules.{rules}
+use Rattle.values.specs.Contents.{offer_at}
+use Rattle.values.specs.Refusals.{first}
+use Rattle.values.specs.declared.Verdict.TheVariants.{Passed}
+use Rattle.values.specs.declared.place.Offer.{Offer}
+use Rattle.values.proofs.Firsts.{first-zero, first_on, first-refused}
+use Rattle.layout.specs.Read.{row_offers}
+use Rattle.layout.proofs.Contained.{length-row_offers, offer-of-row}
+use Rattle.convert.specs.Convert.{steps_fault}
+use Rattle.convert.proofs.Converted.{one_step, row-passed, row-refused}
+use Rattle.convert.proofs.steps_fault.Goals as goal
+use Rattle.convert.proofs.steps_fault.Goals.{After-offer_in-o, Start}
+
+pub loop-row-init : goal.loop-row-init
+loop-row-init c = (search rules, first-zero _)
+
+pub row_bytes-requires : goal.row_bytes-requires
+row_bytes-requires c = c.requires.within c.loop-row.row c.loop-row-test.true
+
+-- the offers of the book, from the function's entry
+abbrev offers : Start → List Offer
+offers c = row_offers c.args.book.now c.args.edition 1 c.args.n
+
+-- the offer that was read is the row's own
+as-offer : (c : After-offer_in-o) →
+    c.offer_in-o.result ≡ offer_at (offers ⟦Start⟧) c.loop-row.row
+as-offer c = offer-of-row _ _ _ _ _ c.loop-row-test.true c.row_bytes.ensures.0 c.offer_in-o.ensures
+
+-- as many as there are rows
+all-offers : (c : Start) → length (offers c) ≡ c.args.n
+all-offers c = length-row_offers c.args.book.now c.args.edition 1 c.args.n
+
+pub returns-then-o-gt1 : goal.returns-then-o-gt1
+unfolding steps_fault
+returns-then-o-gt1 c =
+    let over : 2 ≤ (offer_at (offers (goal.at.returns-then-o-gt1 c).Start) c.loop-row.row).step = omega (arith, c.if-o-gt1.true, ap (λ (o : Offer). o.step) (as-offer (goal.at.returns-then-o-gt1 c).After-offer_in-o)) in
+    sym
+    (ap (first (one_step (offers (goal.at.returns-then-o-gt1 c).Start))) (all-offers (goal.at.returns-then-o-gt1 c).Start)
+    ∙ first-refused (one_step (offers (goal.at.returns-then-o-gt1 c).Start)) c.args.n c.loop-row.row 11 c.loop-row.row c.loop-row-test.true
+    c.loop-row.invariant.1 (row-refused (offers (goal.at.returns-then-o-gt1 c).Start) c.loop-row.row over))
+
+pub loop-row-preserved : goal.loop-row-preserved
+loop-row-preserved c =
+    let low : (offer_at (offers (goal.at.loop-row-preserved c).Start) c.loop-row.row).step ≤ 1 = omega (arith, c.if-o-gt1.false, ap (λ (o : Offer). o.step) (as-offer (goal.at.loop-row-preserved c).After-offer_in-o)) in
+    (search rules, first_on (one_step (offers (goal.at.loop-row-preserved c).Start)) c.loop-row.row c.loop-row.invariant.1 (row-passed (offers (goal.at.loop-row-preserved c).Start) c.loop-row.row low))
+
+pub returns : goal.returns
+unfolding steps_fault
+returns c =
+    let end : c.loop-row.row ≡ length (offers (goal.at.returns c).Start) = omega (arith, c.loop-row-test.false, c.loop-row.invariant.0, all-offers (goal.at.returns c).Start) in
+    sym (ap (first (one_step (offers (goal.at.returns c).Start))) (sym end) ∙ c.loop-row.invariant.1)

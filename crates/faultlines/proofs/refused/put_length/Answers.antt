@@ -1,0 +1,25 @@
+-- `put_length` puts a form that shows its numbers.
+-- Assumes nothing.
+use mathlib.Core.Path.{refl}
+use Rattle.faultlines.specs.Refused.{length_numbers}
+use Rattle.wording.proofs.Showing.{showing}
+use Rattle.faultlines.proofs.refused.put_length.Goals as goal
+
+pub slice_bounds-put_form-end-2 : goal.slice_bounds-put_form-end-2
+slice_bounds-put_form-end-2 c = refl
+
+pub overflow_cast-bytes : goal.overflow_cast-bytes
+overflow_cast-bytes c = tt
+
+pub either-requires : goal.either-requires
+either-requires c = tt
+
+pub put_form-requires : goal.put_form-requires
+put_form-requires c = tt
+
+pub shape_of-room : goal.shape_of-room
+shape_of-room c = c.put_form.auto.0
+
+pub returns : goal.returns
+unfolding length_numbers
+returns c = showing _ _ c.put_form.ensures (simp c.either.ensures)

@@ -1,0 +1,19 @@
+-- `put_rules` puts a form that shows its numbers.
+-- Assumes nothing.
+use mathlib.Core.Path.{refl}
+use Rattle.faultlines.specs.Wrong.{rules_numbers}
+use Rattle.wording.proofs.Showing.{showing}
+use Rattle.faultlines.proofs.wrong.put_rules.Goals as goal
+
+pub slice_bounds-put_form-end-2 : goal.slice_bounds-put_form-end-2
+slice_bounds-put_form-end-2 c = refl
+
+pub put_form-requires : goal.put_form-requires
+put_form-requires c = tt
+
+pub shape_of-room : goal.shape_of-room
+shape_of-room c = c.put_form.auto.0
+
+pub returns : goal.returns
+unfolding rules_numbers
+returns c = showing _ _ c.put_form.ensures refl

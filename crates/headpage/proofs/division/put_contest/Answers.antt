@@ -1,0 +1,13 @@
+-- `put_contest` puts the places between how many are left out before them and behind.
+-- Assumes nothing.
+use Rattle.forms.proofs.Shows.{shows-one, shows_more, shows_then}
+use Rattle.headpage.specs.Division.{contest_parts}
+use borrow.Author.Rules.{rules}
+use Rattle.headpage.proofs.division.put_contest.Goals as goal
+
+pub returns : goal.returns
+unfolding contest_parts
+returns c =
+    rw (← c.excess.ensures)
+    (shows_more _ _ _ c.put_left_before-before.ensures
+    (shows_then _ _ _ _ _ _ _ _ c.put_places-places.ensures (shows-one c.put_left_behind.ensures)))

@@ -1,0 +1,26 @@
+-- `put_places` puts one place after another. The loop's invariant: the places so far were put.
+-- Assumes nothing.
+use mathlib.Core.Path.{◌≡◌}
+use Prim.Native.Nat.{◌+◌, ◌-◌, ◌≤◌}
+use lib.ListN.{length}
+use Rattle.forms.specs.Shown.{Shows}
+use Rattle.forms.specs.Parts.{parts_of}
+use Rattle.forms.proofs.Putting.{parts_none, parts_more, parts-counted}
+use Rattle.workings.specs.Works.{worked}
+use Rattle.headpage.specs.Facts.{placed_in}
+use Rattle.headpage.specs.Division.{place_parts, places_parts}
+use native.Mathlib.Omega.{arith}
+use borrow.Author.Rules.{rules}
+use Rattle.headpage.proofs.division.put_places.Goals as goal
+
+pub loop-j-init : goal.loop-j-init
+loop-j-init c = (search rules, search rules, parts_none _ _ _)
+
+pub loop-j-preserved : goal.loop-j-preserved
+loop-j-preserved c =
+    (search rules, search rules, parts_more _ _ _ _ _ _ _ _ c.loop-j.invariant.2 c.put_place_of-behind.ensures)
+
+pub returns : goal.returns
+unfolding places_parts
+returns c =
+    rw (← c.excess-first.ensures, ← c.lesser.ensures) (parts-counted _ _ _ _ _ (omega arith) c.loop-j.invariant.2)

@@ -1,0 +1,27 @@
+-- `put_levels` puts the head and one rung after another. The loop's invariant: the rungs so far were put behind the head.
+-- Assumes nothing.
+use mathlib.Core.Path.{◌≡◌}
+use Prim.Native.Nat.{◌≤◌, ◌-◌}
+use lib.ListN.{length}
+use Rattle.forms.specs.Shown.{Shows}
+use Rattle.forms.specs.Parts.{parts_of}
+use Rattle.forms.proofs.Shows.{shows_then}
+use Rattle.forms.proofs.Putting.{parts_none, parts_more, parts-counted}
+use Rattle.workings.specs.Works.{worked}
+use Rattle.headpage.specs.Facts.{ladder_in}
+use Rattle.headpage.specs.Levels.{rung_parts, levels_parts}
+use native.Mathlib.Omega.{arith}
+use borrow.Author.Rules.{rules}
+use Rattle.headpage.proofs.rungs.put_levels.Goals as goal
+
+pub loop-k-init : goal.loop-k-init
+loop-k-init c = (search rules, search rules, parts_none _ _ _)
+
+pub loop-k-preserved : goal.loop-k-preserved
+loop-k-preserved c =
+    (search rules, search rules, parts_more _ _ _ _ _ _ _ _ c.loop-k.invariant.2 c.put_rung_of-behind.ensures)
+
+pub returns : goal.returns
+unfolding levels_parts
+returns c =
+    shows_then _ _ _ _ _ _ _ _ c.put_ladder_head-behind.ensures (parts-counted _ _ _ _ _ (omega arith) c.loop-k.invariant.2)

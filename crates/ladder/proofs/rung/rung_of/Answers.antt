@@ -1,0 +1,13 @@
+-- `rung_of` is the level at a price.
+-- Assumes nothing.
+use borrow.Author.Rules.{rules}
+use Rattle.ladder.proofs.Rungs.{rung-is}
+use borrow.Author.Rules.{rules}
+use Rattle.ladder.proofs.rung.rung_of.Goals as goal
+
+pub returns : goal.returns
+returns c =
+    rung-is _ _ _ _ _ _ _ _ _ _ c.requires.cheap
+    c.supply_below-below.ensures.0 c.supply_at-reach.ensures.0 c.supply_at.ensures.0
+    c.excess-offered.ensures c.excess.ensures
+    c.lesser.ensures c.excess-2.ensures

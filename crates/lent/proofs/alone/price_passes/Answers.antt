@@ -1,0 +1,8 @@
+-- `price_passes` joins the tests of a price.
+-- Assumes nothing.
+use mathlib.Core.Path.{refl}
+use mathlib.Core.Bool.{and_assoc}
+use Rattle.lent.proofs.alone.price_passes.Goals as goal
+
+pub returns : goal.returns
+returns c = refl

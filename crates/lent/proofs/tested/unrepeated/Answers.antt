@@ -1,0 +1,12 @@
+-- `unrepeated` keeps the rows where no repeat is refused.
+-- Assumes nothing.
+use mathlib.Core.Path.{◌≡◌, ap, ◌∙◌}
+use Rattle.values.specs.declared.Verdict.{Verdict}
+use Rattle.lent.specs.inner.Drafts.{draft_by}
+use borrow.Author.Rules.{rules}
+use Rattle.lent.proofs.tested.unrepeated.Goals as goal
+
+pub returns : goal.returns
+returns c =
+    let a = c.args in
+    c.drafted.ensures ∙ ap (λ (v : Verdict). draft_by v a.d.rows a.d.before) c.repeat_fault.ensures

@@ -1,0 +1,15 @@
+-- `levels::level::level_at` meets its contract: the total is the one that the curve reaches.
+-- Assumes nothing.
+use mathlib.Core.Path.{refl}
+use borrow.Author.Rules.{rules}
+use Rattle.levels.proofs.level.level_at.Goals as goal
+
+pub returns : goal.returns
+returns c =
+    record {
+      total = rw c.lesser.ensures at c.reached-total.ensures;
+      price = refl;
+      amount = c.lesser-2.ensures;
+      sum = refl;
+      reach = refl;
+    }

@@ -1,0 +1,24 @@
+-- `levels::supply::supply_at` is the supply at a price. The loop's invariant: the sum over the rows passed, each of which
+-- adds at most 200,000.
+-- Assumes nothing.
+use mathlib.Core.Path.{◌≡◌, ap, ◌∙◌}
+use mathlib.Core.Bool.{cond}
+use Prim.Native.Nat.{ℕ, ◌≤◌, ◌*◌, ◌-◌}
+use mathlib.Core.List.{List}
+use native.Mathlib.Omega.{arith}
+use lib.ListN.{get_or}
+use lib.Dec.{leb}
+use borrow.Author.Rules.{rules}
+use Rattle.laws.specs.Sum.{sum_to, sum_where}
+use Rattle.laws.proofs.Loops.{added_none, added_more}
+use Rattle.auction.specs.Offers.{supply}
+use Rattle.levels.proofs.supply.supply_at.Given as goal
+
+abbrev pub takes : List ℕ → List ℕ → ℕ → ℕ → ℕ
+takes prices quantities limit row = cond (leb (get_or prices row 0) limit) (get_or quantities row 0) 0
+
+abbrev pub invariant-loop-row : goal.invariant-loop-row
+invariant-loop-row l = (l.row ≤ l.n) × (l.sum ≡ sum_to (takes l.prices l.quantities l.limit) l.row) × (l.sum ≤ 200000 * l.row)
+
+abbrev pub decreases-loop-row : goal.decreases-loop-row
+decreases-loop-row l = l.n - l.row

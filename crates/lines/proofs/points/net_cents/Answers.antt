@@ -1,0 +1,23 @@
+-- `net_cents` is its definition.
+-- Assumes nothing.
+use Rattle.lines.specs.Points.{net_cents}
+use native.Mathlib.Omega.{arith}
+use mir.Facts.{Fits-32_64}
+use Rattle.lines.proofs.Weights.{net-most}
+use Rattle.lines.proofs.points.net_cents.Goals as goal
+
+pub excess-requires : goal.excess-requires
+excess-requires c = tt
+
+pub overflow_cast-result : goal.overflow_cast-result
+overflow_cast-result c = Fits-32_64 (record { fits = c.excess.type-inv })
+
+pub overflow_mul-result : goal.overflow_mul-result
+overflow_mul-result c = omega (arith, net-most c.excess.result c.args.quarters (omega arith) c.requires)
+
+pub overflow_mul-result-2 : goal.overflow_mul-result-2
+overflow_mul-result-2 c = omega (arith, net-most c.excess.result c.args.quarters (omega arith) c.requires)
+
+pub returns : goal.returns
+unfolding net_cents
+returns c = rw c.excess.ensures

@@ -1,0 +1,13 @@
+-- `seal` puts both sums of a block behind the rest of it.
+-- Assumes nothing.
+use Rattle.sections.proofs.Parts.{part-from}
+use Rattle.making.proofs.Fields.{put-sums}
+use mathlib.Core.Path.{refl}
+use borrow.Author.Rules.{rules}
+use Rattle.making.proofs.seal.Goals as goal
+
+pub returns : goal.returns
+returns c =
+    let sums = c.check_sums-sums.ensures in
+    put-sums s.args.b.now s.args.at _ s.requires (part-from s.args.b.now s.args.at 512) sums.0 sums.1
+    c.put_u16.ensures c.put_u16-2.ensures

@@ -1,0 +1,69 @@
+-- `market::total::cleared_level` is the level at which the cleared total stops. The loop's invariant: the total is no less than
+-- what is offered below the bracket.
+-- Assumes nothing.
+use Rattle.std.proofs.Common.{◌≡◌, ◌-◌, ◌<◌, ◌≤◌, false, sym, ◌∙◌, arith, rules}
+use Rattle.auction.specs.Offers.{Offers, supply_below}
+use Rattle.curve.specs.Price.{demand_of, tenth_price}
+use Rattle.curve.proofs.Prices.{curve-falls, price-most}
+use Rattle.levels.specs.inner.Rows.{listed}
+use Rattle.levels.specs.inner.Reach.{stops_there}
+use Rattle.levels.proofs.Reaching.{goes-past}
+use Rattle.market.specs.inner.Bracket.{Under}
+use Rattle.market.proofs.Narrowing.{under_whole, below_next}
+use Rattle.market.proofs.Stopping.{below-upto, reached-all, reached-stops}
+use Rattle.market.proofs.total.cleared_level.Goals as goal
+use Rattle.market.proofs.total.cleared_level.Goals.{After-supply_at-reach, Else-stops, Start}
+
+-- the offers of the rows
+abbrev offers : After-supply_at-reach → Offers
+offers c = listed c.args.prices.now c.args.quantities.now c.args.n
+
+-- the curve asks no more than 1,000,000
+capped : (c : Start) → tenth_price c.args.c 0 ≤ 1000000
+capped c = omega (arith, price-most c.args.c c.requires.0 0, c.requires.0.price-most)
+
+-- what is offered below the next price, and that it is no more than what is offered up to it
+below : (c : After-supply_at-reach)
+    → supply_below (offers c) c.next_tried-price.result
+    ≡ c.narrow-at.result.below
+below c =
+    let a = c.args in
+    below_next (demand_of a.c) a.prices.now a.quantities.now a.n c.narrow-at.result c.next_tried-price.result
+    c.narrow-at.ensures.0 c.next_tried-price.ensures
+
+upto : (c : After-supply_at-reach) → c.narrow-at.result.below ≤ c.supply_at-reach.result
+upto c = below-upto _ c.next_tried-price.result _ _ (below c) c.supply_at-reach.ensures.0
+
+pub narrowed-at-requires : goal.narrowed-at-requires
+narrowed-at-requires c = ((c.requires.0, c.requires.1, under_whole _ _ _ _ (omega arith)), (omega arith, omega arith))
+
+pub level_at-level-requires : goal.level_at-level-requires
+level_at-level-requires c =
+    (c.requires.0, upto (goal.at.level_at-level-requires c).After-supply_at-reach, c.narrow-at.ensures.0.within)
+
+pub returns-then-stops : goal.returns-then-stops
+returns-then-stops c =
+    (
+      reached-stops (demand_of c.args.c) (offers (goal.at.returns-then-stops c).After-supply_at-reach) (curve-falls _ c.requires.0) _ c.narrow-at.ensures.0 _ _
+          (below (goal.at.returns-then-stops c).After-supply_at-reach) c.supply_at-reach.ensures.0 _ c.level_at-level.ensures
+          (capped (goal.at.returns-then-stops c).Start) c.next_tried-price.ensures.high (sym c.stops.ensures ∙ c.if-stops.true),
+      omega (arith, c.level_at-level.ensures.total.end),
+    )
+
+-- where the search goes on, the total goes past the level
+past : (c : Else-stops) → stops_there c.level_at-level.result ≡ false
+past c = sym c.stops.ensures ∙ c.if-stops.false
+
+-- and there is a higher price
+under-most : (c : Else-stops) → c.next_tried-price.result < 1000000
+under-most c =
+    omega (arith, c.next_tried-price.ensures.high, (goes-past _ (past c)).1, c.level_at-level.ensures.price)
+
+pub loop-c-smaller : goal.loop-c-smaller
+loop-c-smaller c =
+    omega (arith, under-most (goal.at.loop-c-smaller c).Else-stops, c.next_tried-price.ensures.low, c.narrow-at.ensures.1)
+
+pub loop-c-preserved : goal.loop-c-preserved
+loop-c-preserved c =
+    reached-all (demand_of c.args.c) (offers (goal.at.loop-c-preserved c).After-supply_at-reach) (curve-falls _ c.requires.0) _ c.narrow-at.ensures.0 _ _
+    (below (goal.at.loop-c-preserved c).After-supply_at-reach) c.supply_at-reach.ensures.0 _ c.level_at-level.ensures (past (goal.at.loop-c-preserved c).Else-stops) (under-most (goal.at.loop-c-preserved c).Else-stops)

@@ -1,0 +1,22 @@
+-- `ozp_curve` shows the points of the curve, or the refusal of its parameters.
+-- Assumes nothing.
+use mathlib.Core.Path.{◌∙◌}
+use Rattle.ozpinduru.proofs.Exports.{given-ranged, curve-refused, curve-made}
+use borrow.Author.Rules.{rules}
+use Rattle.ozpinduru.proofs.export.ozp_curve.Goals as goal
+
+pub returns-in-Refused : goal.returns-in-Refused
+returns-in-Refused c =
+    c.curve_refused.ensures
+    ∙ curve-refused _ _ c.parameters_in-p.ensures _ c.parameters_verdict.ensures _ _ c.in-Refused.is
+
+pub region_curve-requires : goal.region_curve-requires
+region_curve-requires c =
+    given-ranged _ _ c.parameters_in-p.ensures _ c.parameters_verdict.ensures
+    c.in_default.is
+
+pub returns : goal.returns
+returns c =
+    c.curve.ensures
+    ∙ curve-made _ _ c.parameters_in-p.ensures _ c.parameters_verdict.ensures c.in_default.is _
+    c.region_curve.ensures.0

@@ -1,0 +1,21 @@
+-- `steps_hold` says whether each row has step 1 or stands behind the step before it. The loop's invariant: so it is of the rows passed,
+-- of which row 0 is one.
+-- Assumes nothing.
+use mathlib.Core.Path.{◌≡◌, refl, sym, ap, ap₂, ◌∙◌}
+use mathlib.Core.Bool.{◌&&◌}
+use Prim.Native.Nat.{◌≤◌, ◌-◌}
+use native.Mathlib.Numerals.{add-one}
+use native.Mathlib.Omega.{arith}
+use borrow.Author.Rules.{rules}
+use borrow.Author.Tests.{lt-ltb}
+use Rattle.laws.specs.Sum.{every}
+use Rattle.laws.proofs.Cases.{cond-true}
+use Rattle.laws.proofs.Everys.{every-zero, every-suc}
+use Rattle.reading.specs.inner.Lanes.{steps_hold}
+use Rattle.reading.proofs.lanes.steps_hold.Given as goal
+
+abbrev pub invariant-loop-row : goal.invariant-loop-row
+invariant-loop-row l = ((1 ≤ l.row) × (l.row ≤ l.n)) × (l.all ≡ steps_hold l.prices l.resources l.steps l.row)
+
+abbrev pub decreases-loop-row : goal.decreases-loop-row
+decreases-loop-row l = l.n - l.row

@@ -1,0 +1,18 @@
+-- `values_hold` says whether the columns of all rows are in range. The loop's invariant: so it is of the rows passed.
+-- Assumes nothing.
+use mathlib.Core.Path.{◌≡◌, sym, ap, ap₂, ◌∙◌}
+use mathlib.Core.Bool.{◌&&◌}
+use Prim.Native.Nat.{◌≤◌, ◌-◌}
+use native.Mathlib.Numerals.{add-one}
+use native.Mathlib.Omega.{arith}
+use borrow.Author.Rules.{rules}
+use Rattle.laws.specs.Sum.{every}
+use Rattle.laws.proofs.Everys.{every-zero, every-suc}
+use Rattle.reading.specs.inner.Lanes.{values_hold}
+use Rattle.reading.proofs.lanes.values_hold.Given as goal
+
+abbrev pub invariant-loop-row : goal.invariant-loop-row
+invariant-loop-row l = (l.row ≤ l.n) × (l.all ≡ values_hold l.prices l.quantities l.leasts l.resources l.steps l.row)
+
+abbrev pub decreases-loop-row : goal.decreases-loop-row
+decreases-loop-row l = l.n - l.row

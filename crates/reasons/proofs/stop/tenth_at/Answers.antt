@@ -1,0 +1,8 @@
+-- `tenth_at` is a tenth of the curve.
+-- Assumes nothing.
+use Rattle.reasons.proofs.Stops.{tenth-is}
+use borrow.Author.Rules.{rules}
+use Rattle.reasons.proofs.stop.tenth_at.Goals as goal
+
+pub returns : goal.returns
+returns c = tenth-is _ _ _ _ _ c.tenth_price-price.ensures.0 c.supply_at.ensures.0

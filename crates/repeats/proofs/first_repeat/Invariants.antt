@@ -1,0 +1,30 @@
+-- `first_repeat` is the first row with step 1 whose resource number stands in an earlier row. The rows' invariant: no row passed is
+-- a repeat, as `unrepeated_rows` gives it. The inner loop's: by none of the earlier rows passed is the row one.
+-- Assumes nothing.
+use mathlib.Core.Path.{◌≡◌, ap, ◌∙◌}
+use mathlib.Core.Bool.{true, not, ◌&&◌}
+use Prim.Native.Nat.{◌≤◌, ◌-◌}
+use native.Mathlib.Omega.{arith}
+use lib.Dec.{eqb}
+use lib.ListN.{get_or}
+use borrow.Author.Rules.{rules}
+use Rattle.laws.specs.Sum.{every}
+use Rattle.laws.proofs.Everys.{every-zero}
+use Rattle.repeats.specs.Repeats.{no_repeat}
+use Rattle.repeats.proofs.Failing.{every_more}
+use Rattle.repeats.proofs.Fresh.{repeat-searched, repeat-none, repeat-found}
+use Rattle.repeats.proofs.first_repeat.Given as goal
+
+abbrev pub invariant-loop-earlier : goal.invariant-loop-earlier
+invariant-loop-earlier l =
+    (l.earlier ≤ l.row)
+    × (every (λ e. not (eqb (get_or l.steps l.row 0) 1 && eqb (get_or l.resources e 0) (get_or l.resources l.row 0))) l.earlier ≡ true)
+
+abbrev pub decreases-loop-earlier : goal.decreases-loop-earlier
+decreases-loop-earlier l = l.row - l.earlier
+
+abbrev pub invariant-rows : goal.invariant-rows
+invariant-rows l = (l.row ≤ l.n) × (every (no_repeat (λ r. get_or l.resources r 0) (λ r. get_or l.steps r 0)) l.row ≡ true)
+
+abbrev pub decreases-rows : goal.decreases-rows
+decreases-rows l = l.n - l.row

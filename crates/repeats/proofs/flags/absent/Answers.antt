@@ -1,0 +1,22 @@
+-- `absent` says whether a number stands in none of the rows. The loop's invariant: so it is of the rows passed.
+-- Assumes nothing.
+use mathlib.Core.Path.{◌≡◌, refl, sym, ap, ap₂, ◌∙◌}
+use mathlib.Core.Bool.{◌&&◌, not}
+use Prim.Native.Nat.{◌≤◌, ◌-◌}
+use native.Mathlib.Numerals.{add-one}
+use native.Mathlib.Omega.{arith}
+use lib.Dec.{eqb}
+use lib.ListN.{get_or}
+use borrow.Author.Rules.{rules}
+use Rattle.laws.specs.Sum.{every}
+use Rattle.laws.proofs.Everys.{every-zero, every-suc}
+use Rattle.repeats.proofs.flags.absent.Goals as goal
+
+pub loop-row-init : goal.loop-row-init
+loop-row-init c = (omega arith, sym (every-zero _))
+
+pub loop-row-preserved : goal.loop-row-preserved
+loop-row-preserved c = (omega arith, rw (add-one, every-suc) (ap₂ ◌&&◌ c.loop-row.invariant.1 refl))
+
+pub returns : goal.returns
+returns c = c.loop-row.invariant.1 ∙ ap (every _) (omega arith)

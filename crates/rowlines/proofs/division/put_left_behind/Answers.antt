@@ -1,0 +1,25 @@
+-- `put_left_behind` puts a form that shows its numbers.
+-- Assumes nothing.
+use mathlib.Core.Path.{refl}
+use Rattle.rowlines.specs.Division.{left_behind_numbers}
+use Rattle.wording.proofs.Showing.{showing}
+use borrow.Author.Rules.{rules}
+use Rattle.rowlines.proofs.division.put_left_behind.Goals as goal
+
+pub slice_bounds-put_form-end-2 : goal.slice_bounds-put_form-end-2
+slice_bounds-put_form-end-2 c = refl
+
+pub first_true-requires : goal.first_true-requires
+first_true-requires c = tt
+
+pub put_form-requires : goal.put_form-requires
+put_form-requires c = tt
+
+pub shape_of-room : goal.shape_of-room
+shape_of-room c = c.put_form.auto.0
+
+pub returns : goal.returns
+unfolding left_behind_numbers
+returns c =
+    showing _ _ c.put_form.ensures
+    (rw c.first_true.ensures)

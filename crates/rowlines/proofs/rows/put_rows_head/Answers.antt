@@ -1,0 +1,16 @@
+-- `put_rows_head` puts a form that shows its numbers.
+-- Assumes nothing.
+use mathlib.Core.Path.{refl}
+use Rattle.rowlines.specs.Rows.{rows_head_numbers}
+use Rattle.wording.proofs.Showing.{showing}
+use Rattle.rowlines.proofs.rows.put_rows_head.Goals as goal
+
+pub put_form-requires : goal.put_form-requires
+put_form-requires c = tt
+
+pub shape_of-room : goal.shape_of-room
+shape_of-room c = c.put_form.auto.0
+
+pub returns : goal.returns
+unfolding rows_head_numbers
+returns c = showing _ _ c.put_form.ensures refl

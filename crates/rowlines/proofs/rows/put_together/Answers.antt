@@ -1,0 +1,19 @@
+-- `put_together` puts a form that shows its numbers.
+-- Assumes nothing.
+use mathlib.Core.Path.{refl}
+use Rattle.rowlines.specs.Rows.{together_numbers}
+use Rattle.wording.proofs.Showing.{showing}
+use Rattle.rowlines.proofs.rows.put_together.Goals as goal
+
+pub slice_bounds-put_form-end-2 : goal.slice_bounds-put_form-end-2
+slice_bounds-put_form-end-2 c = refl
+
+pub put_form-requires : goal.put_form-requires
+put_form-requires c = tt
+
+pub shape_of-room : goal.shape_of-room
+shape_of-room c = c.put_form.auto.0
+
+pub returns : goal.returns
+unfolding together_numbers
+returns c = showing _ _ c.put_form.ensures refl

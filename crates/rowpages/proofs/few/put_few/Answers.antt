@@ -1,0 +1,30 @@
+-- `put_few` puts one row after another. The loop's invariant: the parts of the rows so far were put.
+-- Assumes nothing.
+use mathlib.Core.Path.{◌≡◌}
+use mathlib.Core.List.{List, ◌++◌}
+use Prim.Native.Nat.{ℕ, ◌-◌, ◌≤◌}
+use lib.ListN.{length}
+use Rattle.forms.specs.Shown.{Shows}
+use Rattle.forms.specs.Parts.{parts_of}
+use Rattle.forms.proofs.Shows.{shows_then}
+use Rattle.forms.proofs.Putting.{parts_none, parts_more, parts-counted}
+use Rattle.readout.specs.Facts.{row_in}
+use Rattle.workings.specs.Works.{worked}
+use Rattle.rowpages.specs.Row.{row_parts}
+use Rattle.rowpages.specs.Together.{together_parts}
+use Rattle.rowpages.specs.Rows.{few_parts}
+use native.Mathlib.Omega.{arith}
+use borrow.Author.Rules.{rules}
+use Rattle.rowpages.proofs.few.put_few.Goals as goal
+
+pub loop-row-init : goal.loop-row-init
+loop-row-init c = (search rules, search rules, parts_none _ _ _)
+
+pub loop-row-preserved : goal.loop-row-preserved
+loop-row-preserved c =
+    let both = shows_then _ _ _ _ _ _ _ _ c.put_row_of-own.ensures c.put_together_of-behind.ensures in
+    (search rules, search rules, parts_more _ _ _ _ _ _ _ _ c.loop-row.invariant.2 both)
+
+pub returns : goal.returns
+unfolding few_parts
+returns c = parts-counted _ _ _ _ _ (omega arith) c.loop-row.invariant.2

@@ -1,0 +1,18 @@
+-- `put_row_of` puts a row by its offer and the workings of its book, where both are there.
+-- Assumes nothing.
+use Rattle.forms.proofs.Shows.{shows-none}
+use borrow.Author.Rules.{rules}
+use Rattle.rowpages.proofs.row.put_row_of.Goals as goal
+
+pub returns-in_default : goal.returns-in_default
+returns-in_default c = rw (← c.offer_of.ensures, c.in_default.is) (shows-none _ _)
+
+pub returns-in-Worked : goal.returns-in-Worked
+returns-in-Worked c =
+    rw (← c.offer_of.ensures, c.in-Offered.is, ← c.workings.ensures, c.in-Worked.is)
+    c.put_worked.ensures
+
+pub returns-in-Refused : goal.returns-in-Refused
+returns-in-Refused c =
+    rw (← c.offer_of.ensures, c.in-Offered.is, ← c.workings.ensures, c.in-Refused.is)
+    (shows-none _ _)

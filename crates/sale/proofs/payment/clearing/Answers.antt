@@ -1,0 +1,92 @@
+-- `clearing` is the clearing of the contents that stand in the columns. What is paid fits 64 bits: a day's mills are at most
+-- 117,178,068,800,000.
+-- Assumes nothing.
+use mathlib.Core.Path.{◌≡◌, refl, sym, ap, subst, ◌∙◌}
+use mathlib.Core.List.{List}
+use Prim.Native.Nat.{ℕ, ◌+◌, ◌≤◌}
+use native.Mathlib.Nat.{lt_of_le_of_lt, mul-le-mul}
+use native.Mathlib.Omega.{arith}
+use lib.Dec.{lit<}
+use borrow.Author.Rules.{rules}
+use Rattle.auction.specs.Settlement.{mills}
+use Rattle.limits.specs.Ranges.{Ranged}
+use Rattle.values.specs.Contents.{Contents}
+use Rattle.columns.specs.inner.Columns.{Columns, columns_of}
+use Rattle.settle.specs.inner.Read.{quoted}
+use Rattle.sale.specs.inner.Sale.{Stands}
+use Rattle.sale.proofs.Sales.{columns-rows, columns-ordered}
+use Rattle.sale.proofs.SaleLaws.{SoldAs, sold-contents}
+use Rattle.sale.proofs.Payments.{cleared-committable, committed-list, mills-most, whole-most, whole-paid, clearing-is}
+use Rattle.sale.proofs.payment.clearing.Goals as goal
+use Rattle.sale.proofs.payment.clearing.Goals.{After-mills_of, After-sell-sale}
+
+pub region_curve-requires : goal.region_curve-requires
+region_curve-requires c =
+    let s = c.requires.0.stands in
+    subst Ranged (sym s.own) s.clearable.parameters
+
+pub sell-sale-requires : goal.sell-sale-requires
+sell-sale-requires c =
+    let s = c.requires.0.stands in (
+      (c.region_curve.ensures.1, columns-rows _ _ _ _ s),
+      (columns-ordered _ _ _ _ s, c.requires.1.0),
+    )
+
+abbrev columns : After-sell-sale → Columns
+columns c =
+    let a = c.args in
+    columns_of a.prices.now a.quantities.now a.leasts.now a.resources.now a.stamps.now a.steps.now
+
+abbrev amounts : After-sell-sale → List ℕ
+amounts c = c.sell-sale.new.1.1.1.1.1.1.1.0
+
+-- the sale is that of any contents in the columns
+sold : (c : After-sell-sale) (k : Contents) → Stands k c.args.p c.args.n (columns c)
+    → SoldAs k c.args.cleared.now c.sell-sale.result (amounts c)
+sold c k s =
+    sold-contents k _ _ (columns c) s _ c.region_curve.ensures.0 _ _ _ c.requires.1.0 c.sell-sale.ensures
+
+-- of some contents that stand there
+some : (c : After-sell-sale) → SoldAs c.requires.0.contents c.args.cleared.now c.sell-sale.result (amounts c)
+some c = sold c c.requires.0.contents c.requires.0.stands
+
+pub commit-past-requires : goal.commit-past-requires
+commit-past-requires c =
+    (cleared-committable _ _ _ (columns (goal.at.commit-past-requires c).After-sell-sale) c.requires.0.stands _ (amounts (goal.at.commit-past-requires c).After-sell-sale) c.requires.1.0 (some (goal.at.commit-past-requires c).After-sell-sale).amounts, c.requires.1.1)
+
+-- the price on what cleared, and all make-whole
+daily-most : (c : After-mills_of) → c.mills_of.result + c.mills_of-make_whole.result ≤ 117178068800000
+daily-most c =
+    let s = c.requires.0.stands in
+    omega (
+      arith,
+      c.mills_of.ensures,
+      mills-most _ _ _ (columns ⟦After-sell⟧) s _ _ (some ⟦After-sell⟧).quote (some ⟦After-sell⟧).quantity,
+      c.mills_of-make_whole.ensures,
+      whole-most _ _ _ (columns ⟦After-sell⟧) s _ _ (some ⟦After-sell⟧).quote c.commit-past.ensures.1.1,
+    )
+
+pub overflow_add-daily : goal.overflow_add-daily
+overflow_add-daily c = omega (arith, daily-most (goal.at.overflow_add-daily c).After-mills_of)
+
+pub overflow_mul-result : goal.overflow_mul-result
+overflow_mul-result c =
+    record { fits = lt_of_le_of_lt (mul-le-mul c.days_of.ensures.1 (daily-most (goal.at.overflow_mul-result c).After-mills_of)) (lit< tt) }
+
+pub returns : goal.returns
+returns c =
+    let long = c.requires.1.0 in
+    let sale = sold (goal.at.returns c).After-sell-sale k s in
+    let paid = c.commit-past.ensures in
+    record {
+      clearing =
+          clearing-is k _ _ (columns (goal.at.returns c).After-sell-sale) s _ _ _ _ _ _ sale.quantity sale.quote
+          (c.mills_of-make_whole.ensures
+          ∙ ap (mills (quoted c.sell-sale.result.price)) paid.1.0
+          ∙ whole-paid k _ _ (columns (goal.at.returns c).After-sell-sale) s _ (amounts (goal.at.returns c).After-sell-sale) long sale.amounts _ sale.quote)
+          (ap (λ (m : ℕ). m + c.mills_of-make_whole.result) c.mills_of.ensures)
+          c.days_of.ensures.0
+          refl;
+      cleared-holds = sale.amounts;
+      committed-holds = committed-list k _ _ (columns (goal.at.returns c).After-sell-sale) s _ (amounts (goal.at.returns c).After-sell-sale) long sale.amounts _ _ paid.0;
+    }

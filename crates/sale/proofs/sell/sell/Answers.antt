@@ -1,0 +1,20 @@
+-- `sell` sells the rows of columns on a curve.
+-- Assumes nothing.
+use borrow.Author.Rules.{rules}
+use Rattle.sale.proofs.SaleLaws.{stops-own, sold-columns}
+use Rattle.sale.proofs.sell.sell.Goals as goal
+
+pub share_out-requires : goal.share_out-requires
+share_out-requires c =
+    (
+      (c.requires.0.1, c.requires.1.0),
+      (c.requires.1.1, stops-own _ _ _ c.cleared_level-level.ensures.0),
+    )
+
+pub returns : goal.returns
+returns c =
+    let a = c.args in
+    let stops = c.cleared_level-level.ensures.0 in
+    sold-columns a.prices.now a.quantities.now a.stamps.now a.resources.now a.steps.now
+    _ _ _ _ _ _ _ c.requires.0.1 stops.total (stops-own _ _ _ stops) c.clearing_price.ensures
+    c.share_out.ensures

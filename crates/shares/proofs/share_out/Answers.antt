@@ -1,0 +1,71 @@
+-- `shares::share_out` writes what each row clears of a total: its part, and where something is spare at the level, what
+-- `give` adds to it.
+-- Assumes nothing.
+use mathlib.Core.Path.{◌≡◌, sym, ◌∙◌}
+use mathlib.Core.List.{List}
+use Prim.Native.Nat.{ℕ, ◌-◌, ◌≤◌}
+use native.Mathlib.Omega.{arith}
+use borrow.Author.Rules.{rules}
+use Rattle.laws.proofs.Filling.{length-filling}
+use Rattle.laws.proofs.FilledRows.{filled_row}
+use Rattle.auction.specs.Offers.{Offers}
+use Rattle.auction.specs.Shares.{spare_tenths}
+use Rattle.columns.specs.inner.Column.{rows_of}
+use Rattle.parts.specs.inner.Divides.{DividesRows}
+use Rattle.shares.specs.inner.Stages.{Stopped, HoldsParts}
+use Rattle.shares.proofs.Given.{rows-stopped, rows-divide}
+use Rattle.shares.proofs.Holding.{parts-rows, held-spare}
+use Rattle.shares.proofs.Outcome.{given-shared, parts_shared}
+use Rattle.shares.proofs.share_out.Goals as goal
+use Rattle.shares.proofs.share_out.Goals.{After-held_at, After-parts, Start}
+
+abbrev rows : After-held_at → Offers
+rows c =
+    let a = c.args in
+    rows_of a.prices.now a.quantities.now a.stamps.now a.resources.now a.steps.now a.n
+
+stopped : (c : After-held_at) → Stopped (rows c) c.args.level
+stopped c = rows-stopped _ _ _ _ _ _ _ c.requires.0.0 c.requires.0.1 c.requires.1.1
+
+divides : (c : Start) → DividesRows c.args.level c.args.prices.now c.args.quantities.now c.args.n
+divides c = rows-divide _ _ _ _ c.args.steps.now _ _ c.requires.0.0 c.requires.0.1 c.requires.1.1
+
+pub parts-requires : goal.parts-requires
+parts-requires c = (divides (goal.at.parts-requires c).Start, search rules)
+
+abbrev parted : After-parts → List ℕ
+parted c = c.parts.new.1.1.1.1.0
+
+holds : (c : After-parts) → let a = c.args in
+    HoldsParts a.level a.prices.now a.quantities.now a.n (parted c)
+holds c =
+    let long = c.requires.1.0 in
+    let same = length-filling _ _ _ c.parts.ensures in
+    record { long = rw same long; row = filled_row _ _ _ c.parts.ensures long }
+
+pub held_at-requires : goal.held_at-requires
+held_at-requires c =
+    parts-rows _ _ _ _ (divides (goal.at.held_at-requires c).Start) (parted (goal.at.held_at-requires c).After-parts) (holds (goal.at.held_at-requires c).After-parts)
+
+-- what the level holds is at most its amount, and leaves its spare tenths
+spares : (c : After-held_at) → (c.held_at.result ≤ c.args.level.amount)
+    × (c.args.level.amount - c.held_at.result ≡ spare_tenths (rows c) c.args.level.total c.args.level.price)
+spares c =
+    let a = c.args in
+    held-spare _ _ a.stamps.now a.resources.now a.steps.now _ _ (stopped c) (parted ⟦After-parts⟧) (holds ⟦After-parts⟧) _
+    c.held_at.ensures
+
+pub overflow_sub-spare : goal.overflow_sub-spare
+overflow_sub-spare c = (spares (goal.at.overflow_sub-spare c).After-held_at).0
+
+pub give-requires : goal.give-requires
+give-requires c =
+    record { divides = divides (goal.at.give-requires c).Start; ordered = c.requires.0.1; stopped = stopped (goal.at.give-requires c).After-held_at; holds = holds (goal.at.give-requires c).After-parts; tenths = (spares (goal.at.give-requires c).After-held_at).1 }
+
+pub returns-then-spare-gt0 : goal.returns-then-spare-gt0
+returns-then-spare-gt0 c =
+    given-shared (rows (goal.at.returns-then-spare-gt0 c).After-held_at) _ _ _ _ c.requires.1.0 c.parts.ensures c.give.ensures
+
+pub returns-else-spare-gt0 : goal.returns-else-spare-gt0
+returns-else-spare-gt0 c =
+    parts_shared (rows (goal.at.returns-else-spare-gt0 c).After-held_at) _ _ (stopped (goal.at.returns-else-spare-gt0 c).After-held_at) c.requires.1.0 c.parts.ensures (sym (spares (goal.at.returns-else-spare-gt0 c).After-held_at).1 ∙ omega arith)

@@ -1,0 +1,19 @@
+-- `shares::spare::halve` parts the time stamps of the first rows into halves. The loop's invariant: those of the rows passed
+-- are parted.
+-- Assumes nothing.
+use mathlib.Core.Path.{◌≡◌}
+use Prim.Native.Nat.{◌-◌, ◌≤◌}
+use native.Mathlib.Nat.{le_antisymm}
+use native.Mathlib.Omega.{arith}
+use borrow.Author.Rules.{rules}
+use Rattle.laws.specs.Filled.{filled}
+use Rattle.laws.proofs.Fills.{filled_none, filled_more}
+use Rattle.laws.proofs.Filling.{length-filling, filled-all}
+use Rattle.shares.specs.inner.Halves.{high_half, low_half}
+use Rattle.shares.proofs.spare.halve.Given as goal
+
+abbrev pub invariant-loop-row : goal.invariant-loop-row
+invariant-loop-row l = (l.row ≤ l.n) × (l.highs ≡ filled (high_half l.stamps) l.row l.initial.highs) × (l.lows ≡ filled (low_half l.stamps) l.row l.initial.lows)
+
+abbrev pub decreases-loop-row : goal.decreases-loop-row
+decreases-loop-row l = l.n - l.row

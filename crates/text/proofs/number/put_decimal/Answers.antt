@@ -1,0 +1,42 @@
+-- `put_decimal` puts the parts into a local buffer that has room for them, and then the whole text.
+-- Assumes nothing.
+use mathlib.Core.Path.{◌≡◌}
+use native.Mathlib.Nat.{le_refl}
+use native.Mathlib.Omega.{arith}
+use lib.ListN.{take}
+use borrow.Author.Rules.{rules}
+use Rattle.text.specs.inner.Number.{decimal_text}
+use Rattle.text.proofs.Numbers.{decimal-parts}
+use Rattle.text.proofs.number.put_decimal.Goals as goal
+use Rattle.text.proofs.number.put_decimal.Goals.{After-put_filled-end}
+
+pub lesser_size-p-requires : goal.lesser_size-p-requires
+lesser_size-p-requires c = tt
+
+pub put_number-point-requires : goal.put_number-point-requires
+put_number-point-requires c = tt
+
+pub put_byte-rest-requires : goal.put_byte-rest-requires
+put_byte-rest-requires c = tt
+
+pub put_filled-end-requires : goal.put_filled-end-requires
+put_filled-end-requires c = tt
+
+pub put_bytes-requires : goal.put_bytes-requires
+put_bytes-requires c = tt
+
+-- the local buffer, once the parts were put, holds the text
+composed : (c : After-put_filled-end) →
+    take c.put_filled-end.result c.put_filled-end.new.0 ≡ decimal_text c.lesser_size-p.result c.args.n
+composed c =
+    decimal-parts _ _ c.power-unit.result _
+    (omega (arith, c.lesser_size-p.ensures))
+    (omega arith)
+    c.power-unit.ensures.0
+    (le_refl 41)
+    c.put_number-point.ensures
+    c.put_byte-rest.ensures
+    c.put_filled-end.ensures
+
+pub returns : goal.returns
+returns c = rw (← c.lesser_size-p.ensures, ← composed (goal.at.returns c).After-put_filled-end) c.put_bytes.ensures

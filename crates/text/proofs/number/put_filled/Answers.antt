@@ -1,0 +1,18 @@
+-- `put_filled` puts the digits that `io::decimal` spells.
+-- Assumes nothing.
+use native.Mathlib.Omega.{arith}
+use borrow.Author.Rules.{rules}
+use Rattle.text.proofs.DigitCounts.{decimal-text}
+use Rattle.text.proofs.number.put_filled.Goals as goal
+
+pub decimal-k-requires : goal.decimal-k-requires
+decimal-k-requires c = tt
+
+pub put_right-requires : goal.put_right-requires
+put_right-requires c = tt
+
+pub returns : goal.returns
+returns c =
+    let spelled = c.decimal-k.ensures in
+    let n = c.args.n in
+    rw (← decimal-text n _ (omega arith) spelled.1.0 spelled.1.1) c.put_right.ensures

@@ -1,0 +1,26 @@
+-- `parts_at` sums the parts of a level rounded down. The loop's invariant: the sum over the rows passed, each of which adds at most
+-- 200,000.
+-- Assumes nothing.
+use mathlib.Core.Path.{◌≡◌, ap, ◌∙◌}
+use mathlib.Core.Bool.{cond}
+use mathlib.Core.List.{List}
+use Prim.Native.Nat.{ℕ, ◌*◌, ◌-◌, ◌/◌, ◌≤◌}
+use native.Mathlib.Omega.{arith}
+use lib.ListN.{get_or}
+use lib.Dec.{eqb}
+use Rattle.laws.specs.Sum.{sum_to, sum_where}
+use Rattle.laws.proofs.Loops.{added_none, added_more}
+use Rattle.reasons.specs.declared.share.Received.{Received}
+use Rattle.turns.specs.inner.Contending.{parts_in}
+use borrow.Author.Rules.{rules}
+use Rattle.turns.proofs.level.parts_at.Given as goal
+
+abbrev pub adds : List ℕ → List ℕ → ℕ → Received → ℕ → ℕ
+adds prices quantities price level row =
+    cond (eqb (get_or prices row 0) price) (get_or quantities row 0 * level.amount / level.sum) 0
+
+abbrev pub invariant-loop-row : goal.invariant-loop-row
+invariant-loop-row l = (l.row ≤ l.n) × (l.sum ≡ sum_to (adds l.prices l.quantities l.price l.level) l.row) × (l.sum ≤ 200000 * l.row)
+
+abbrev pub decreases-loop-row : goal.decreases-loop-row
+decreases-loop-row l = l.n - l.row

@@ -1,0 +1,19 @@
+-- `contenders_at` counts the rows at a price. The loop's invariant: those of the rows passed.
+-- Assumes nothing.
+use mathlib.Core.Path.{◌≡◌, ap, ◌∙◌}
+use mathlib.Core.Bool.{cond}
+use Prim.Native.Nat.{◌-◌, ◌≤◌}
+use native.Mathlib.Omega.{arith}
+use lib.ListN.{get_or}
+use lib.Dec.{eqb}
+use Rattle.laws.specs.Sum.{sum_to, sum_where, count_where}
+use Rattle.laws.proofs.Loops.{added_none, added_more}
+use Rattle.turns.specs.Order.{contenders}
+use borrow.Author.Rules.{rules}
+use Rattle.turns.proofs.spare.contenders_at.Given as goal
+
+abbrev pub invariant-loop-row : goal.invariant-loop-row
+invariant-loop-row l = (l.row ≤ l.n) × (l.count ≡ sum_to (λ i. cond (eqb (get_or l.prices i 0) l.price) 1 0) l.row) × (l.count ≤ l.row)
+
+abbrev pub decreases-loop-row : goal.decreases-loop-row
+decreases-loop-row l = l.n - l.row

@@ -1,0 +1,25 @@
+-- `before_in` counts who stands before a contender. The loop's invariant: those of the rows passed.
+-- Assumes nothing.
+use mathlib.Core.Path.{◌≡◌, ap, ◌∙◌}
+use mathlib.Core.Bool.{cond, ◌&&◌}
+use Prim.Native.Nat.{ℕ, ◌-◌, ◌≤◌}
+use native.Mathlib.Omega.{arith}
+use lib.Dec.{eqb}
+use Rattle.laws.specs.Sum.{sum_to, sum_where, count_where}
+use Rattle.laws.proofs.Loops.{added_none, added_more}
+use Rattle.auction.specs.Offers.{Offers}
+use Rattle.columns.specs.inner.Column.{rows_of}
+use Rattle.reasons.specs.declared.share.Received.{Received}
+use Rattle.turns.specs.inner.Contending.{contender_of, ahead_of, before_in}
+use Rattle.turns.specs.declared.order.Contender.{Contender}
+use borrow.Author.Rules.{rules}
+use Rattle.turns.proofs.standing.before_in.Given as goal
+
+abbrev pub counts : Offers → ℕ → Received → Contender → ℕ → ℕ
+counts o p l own j = cond (eqb (o.price j) p && ahead_of (contender_of (o.quantity j) (o.stamp j) (o.resource j) (o.step j) l) own) 1 0
+
+abbrev pub invariant-loop-row : goal.invariant-loop-row
+invariant-loop-row l = (l.row ≤ l.n) × (l.count ≡ sum_to (counts (rows_of l.prices l.quantities l.stamps l.resources l.steps l.n) l.price l.level l.own) l.row) × (l.count ≤ l.row)
+
+abbrev pub decreases-loop-row : goal.decreases-loop-row
+decreases-loop-row l = l.n - l.row

@@ -1,0 +1,17 @@
+-- `row_works` is what a row works out to.
+-- Assumes nothing.
+use Rattle.workings.proofs.Rowed.{row_is}
+use borrow.Author.Rules.{rules}
+use Rattle.workings.proofs.row.row_works.Goals as goal
+
+pub turn_at-turn-requires : goal.turn_at-turn-requires
+turn_at-turn-requires c = (c.requires.0.0, c.requires.0.1, c.requires.1.1)
+
+pub committed_of-committed-requires : goal.committed_of-committed-requires
+committed_of-committed-requires c = tt
+
+pub make_whole-requires : goal.make_whole-requires
+make_whole-requires c = tt
+
+pub returns : goal.returns
+returns c = row_is _ _ _ _ _ _ _ _ c.turn_at-turn.ensures c.committed_of-committed.ensures c.make_whole.ensures
