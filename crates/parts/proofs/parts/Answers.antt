@@ -15,7 +15,7 @@ pub loop-row-init : goal.loop-row-init
 loop-row-init c = (search rules, filled_none _ _)
 
 pub part-requires : goal.part-requires
-part-requires c = c.requires.0.each c.loop-row.row (search rules)
+part-requires c = c.requires.divides_rows.each c.loop-row.row (search rules)
 
 pub bounds-out-row : goal.bounds-out-row
 bounds-out-row c = omega (arith, length-filling _ _ _ c.loop-row.invariant.1)

@@ -13,23 +13,23 @@ use Rattle.report.proofs.put_clearing.Goals as goal
 use Rattle.report.proofs.put_clearing.Goals.{After-offer_count-n}
 
 pub offer_count-n-requires : goal.offer_count-n-requires
-offer_count-n-requires c = form-passed-length _ (accepted-form _ c.requires.0)
+offer_count-n-requires c = form-passed-length _ (accepted-form _ c.requires.book_value)
 
 -- there are 600 rows at most
 few : (c : After-offer_count-n) → c.offer_count-n.result ≤ 600
-few c = omega (arith, c.offer_count-n.ensures.0, (accepted-inside _ c.requires.0).few)
+few c = omega (arith, c.offer_count-n.ensures.0, (accepted-inside _ c.requires.book_value).few)
 
 pub put_rows-third-requires : goal.put_rows-third-requires
 put_rows-third-requires c =
     let count = c.offer_count-n.ensures.0 in
-    let inside = accepted-inside _ c.requires.0 in (
-      (
+    let inside = accepted-inside _ c.requires.book_value in record {
+      inside = (
         subst (Inside _ 1) (sym count) inside,
-        omega (arith, count, inside.few, c.requires.1.0.0),
-        omega (arith, count, inside.few, c.requires.1.0.1),
-      ),
-      omega (arith, count, inside.few, c.requires.1.1),
-    )
+        omega (arith, count, inside.few, c.requires.in_bounds.0),
+        omega (arith, count, inside.few, c.requires.in_bounds.1),
+      );
+      n_in_bounds = omega (arith, count, inside.few, c.requires.at_in_bounds);
+    }
 
 pub put_word-fourth-requires : goal.put_word-fourth-requires
 put_word-fourth-requires c = omega (arith, few (goal.at.put_word-fourth-requires c).After-offer_count-n)
@@ -43,7 +43,7 @@ put_word-requires c =
     omega (
       arith,
       few (goal.at.put_word-requires c).After-offer_count-n,
-      c.requires.1.1,
+      c.requires.at_in_bounds,
       first.1,
       second.1,
       third.1,

@@ -15,7 +15,11 @@ pub loop-row-init : goal.loop-row-init
 loop-row-init c = (search rules, search rules, rows_none _ (omega arith), omega arith)
 
 pub put_offer-behind-requires : goal.put_offer-behind-requires
-put_offer-behind-requires c = (c.requires.0.0.within c.loop-row.row (omega arith), omega arith)
+put_offer-behind-requires c =
+    record {
+      row_in_bounds = c.requires.inside.0.within c.loop-row.row (omega arith);
+      at_in_bounds = omega arith;
+    }
 
 pub loop-row-preserved : goal.loop-row-preserved
 loop-row-preserved c =

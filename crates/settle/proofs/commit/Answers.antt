@@ -45,7 +45,7 @@ shape_of-out c = length-filling _ _ _ c.loop-row.invariant.1
 
 pub returns : goal.returns
 returns c =
-    (
-      filled-all _ _ c.loop-row.invariant.1 (omega arith),
-      (c.loop-row.invariant.2 ∙ ap (sum_to _) (omega arith), omega (arith, c.requires.0.few)),
-    )
+    record {
+      out_after = filled-all _ _ c.loop-row.invariant.1 (omega arith);
+      value = (c.loop-row.invariant.2 ∙ ap (sum_to _) (omega arith), omega (arith, c.requires.0.few));
+    }

@@ -25,13 +25,18 @@ rows c =
     rows_of a.prices.now a.quantities.now a.stamps.now a.resources.now a.steps.now a.n
 
 stopped : (c : After-held_at) → Stopped (rows c) c.args.level
-stopped c = rows-stopped _ _ _ _ _ _ _ c.requires.0.0 c.requires.0.1 c.requires.1.1
+stopped c = rows-stopped _ _ _ _ _ _ _ c.requires.row_lists.0 c.requires.row_lists.1 c.requires.stops_at
 
 divides : (c : Start) → DividesRows c.args.level c.args.prices.now c.args.quantities.now c.args.n
-divides c = rows-divide _ _ _ _ c.args.steps.now _ _ c.requires.0.0 c.requires.0.1 c.requires.1.1
+divides c =
+    rows-divide _ _ _ _ c.args.steps.now _ _ c.requires.row_lists.0 c.requires.row_lists.1 c.requires.stops_at
 
 pub parts-requires : goal.parts-requires
-parts-requires c = (divides (goal.at.parts-requires c).Start, search rules)
+parts-requires c =
+    record {
+      divides_rows = divides (goal.at.parts-requires c).Start;
+      n_in_bounds = search rules;
+    }
 
 abbrev parted : After-parts → List ℕ
 parted c = c.parts.new.1.1.1.1.0
@@ -39,7 +44,7 @@ parted c = c.parts.new.1.1.1.1.0
 holds : (c : After-parts) → let a = c.args in
     HoldsParts a.level a.prices.now a.quantities.now a.n (parted c)
 holds c =
-    let long = c.requires.1.0 in
+    let long = c.requires.n_in_bounds in
     let same = length-filling _ _ _ c.parts.ensures in
     record { long = rw same long; row = filled_row _ _ _ c.parts.ensures long }
 
@@ -60,12 +65,12 @@ overflow_sub-spare c = (spares (goal.at.overflow_sub-spare c).After-held_at).0
 
 pub give-requires : goal.give-requires
 give-requires c =
-    record { divides = divides (goal.at.give-requires c).Start; ordered = c.requires.0.1; stopped = stopped (goal.at.give-requires c).After-held_at; holds = holds (goal.at.give-requires c).After-parts; tenths = (spares (goal.at.give-requires c).After-held_at).1 }
+    record { divides = divides (goal.at.give-requires c).Start; ordered = c.requires.row_lists.1; stopped = stopped (goal.at.give-requires c).After-held_at; holds = holds (goal.at.give-requires c).After-parts; tenths = (spares (goal.at.give-requires c).After-held_at).1 }
 
 pub returns-then-spare-gt0 : goal.returns-then-spare-gt0
 returns-then-spare-gt0 c =
-    given-shared (rows (goal.at.returns-then-spare-gt0 c).After-held_at) _ _ _ _ c.requires.1.0 c.parts.ensures c.give.ensures
+    given-shared (rows (goal.at.returns-then-spare-gt0 c).After-held_at) _ _ _ _ c.requires.n_in_bounds c.parts.ensures c.give.ensures
 
 pub returns-else-spare-gt0 : goal.returns-else-spare-gt0
 returns-else-spare-gt0 c =
-    parts_shared (rows (goal.at.returns-else-spare-gt0 c).After-held_at) _ _ (stopped (goal.at.returns-else-spare-gt0 c).After-held_at) c.requires.1.0 c.parts.ensures (sym (spares (goal.at.returns-else-spare-gt0 c).After-held_at).1 ∙ omega arith)
+    parts_shared (rows (goal.at.returns-else-spare-gt0 c).After-held_at) _ _ (stopped (goal.at.returns-else-spare-gt0 c).After-held_at) c.requires.n_in_bounds c.parts.ensures (sym (spares (goal.at.returns-else-spare-gt0 c).After-held_at).1 ∙ omega arith)

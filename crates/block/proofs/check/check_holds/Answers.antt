@@ -13,8 +13,8 @@ unfolding check_holds
 returns-then-sums-u16_at c =
     let s = c.args.s.now in
     rw (
-      ← (c.check_sums-sums.ensures.0 ∙ kept (block_sum-first s)),
-      ← (c.check_sums-sums.ensures.1 ∙ kept (block_total-second s)),
+      ← (c.check_sums-sums.ensures.sum_value ∙ kept (block_sum-first s)),
+      ← (c.check_sums-sums.ensures.total_value ∙ kept (block_total-second s)),
       ← c.u16_at.ensures.0,
       ← c.u16_at-then-sums-u16_at.ensures.0,
       eq-eqb _ _ c.if-sums-u16_at.true,
@@ -25,7 +25,7 @@ unfolding check_holds
 returns-else-sums-u16_at c =
     let s = c.args.s.now in
     rw (
-      ← (c.check_sums-sums.ensures.0 ∙ kept (block_sum-first s)),
+      ← (c.check_sums-sums.ensures.sum_value ∙ kept (block_sum-first s)),
       ← c.u16_at.ensures.0,
       ne_eqb _ _ c.if-sums-u16_at.false,
     )

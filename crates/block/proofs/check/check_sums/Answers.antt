@@ -10,13 +10,13 @@ pub returns : goal.returns
 returns c =
     let s = c.args.s.now in
     let sums = c.over_columns.ensures in
-    let filling = c.column_sums-totals.ensures.1 in (
-      sum-together s _ (zeros 16) filling (le_refl 16) sums.0 sums.1 c.over_first-first.ensures.0,
-      total-together s _ (zeros 16) filling (le_refl 16) sums.0 sums.1 c.over_first-first.ensures.1
-          (doubled-four _ c.column_sums-totals.ensures.0
+    let filling = c.column_sums-totals.ensures.sums_after in record {
+      sum_value = sum-together s _ (zeros 16) filling (le_refl 16) sums.0 sums.1 c.over_first-first.ensures.sum_value;
+      total_value = total-together s _ (zeros 16) filling (le_refl 16) sums.0 sums.1 c.over_first-first.ensures.total_value
+          (doubled-four _ c.column_sums-totals.ensures.value
           c.doubled.ensures
           c.doubled-2.ensures
           c.doubled-3.ensures
           c.doubled-rows.ensures)
-          c.added.ensures,
-    )
+          c.added.ensures;
+    }

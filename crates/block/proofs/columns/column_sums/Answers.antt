@@ -41,4 +41,7 @@ shape_of-sums c = length-filling _ _ _ c.loop-column.invariant.2
 pub returns : goal.returns
 returns c =
     let all : c.loop-column.column ≡ 16 = omega arith in
-    (kept-all _ _ c.loop-column.invariant.1 all, filled-all _ _ c.loop-column.invariant.2 all)
+    record {
+      value = kept-all _ _ c.loop-column.invariant.1 all;
+      sums_after = filled-all _ _ c.loop-column.invariant.2 all;
+    }

@@ -18,12 +18,15 @@ loop-i-preserved c =
       omega arith,
       board-more _ _ _ _ _ c.loop-i.invariant.1
           (ap (λ (j : ℕ). get_or sums j 0) place)
-          c.step-board.ensures.0
-          c.step-board.ensures.1,
+          c.step-board.ensures.sum_value
+          c.step-board.ensures.total_value,
     )
 
 pub returns : goal.returns
 returns c =
     let b = c.loop-i.invariant.1 in
     let all : c.loop-i.i ≡ 16 = omega arith in
-    (board-sum _ _ b all, board-total _ _ b all)
+    record {
+      sum_value = board-sum _ _ b all;
+      total_value = board-total _ _ b all;
+    }

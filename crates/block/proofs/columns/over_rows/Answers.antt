@@ -20,12 +20,15 @@ loop-passed-preserved c =
       omega arith,
       board-more _ _ _ _ _ c.loop-passed.invariant.2
           (c.wide16.ensures.0 ∙ ap (byte a.s.now) place)
-          c.step-board.ensures.0
-          c.step-board.ensures.1,
+          c.step-board.ensures.sum_value
+          c.step-board.ensures.total_value,
     )
 
 pub returns : goal.returns
 returns c =
     let b = c.loop-passed.invariant.2 in
     let all : c.loop-passed.passed ≡ 30 = omega arith in
-    (board-sum _ _ b all, board-total _ _ b all)
+    record {
+      sum_value = board-sum _ _ b all;
+      total_value = board-total _ _ b all;
+    }

@@ -18,12 +18,15 @@ loop-i-preserved c =
       omega arith,
       board-more _ _ _ _ _ c.loop-i.invariant.1
           (c.wide16.ensures.0 ∙ ap (byte s) place)
-          c.step-after.ensures.0
-          c.step-after.ensures.1,
+          c.step-after.ensures.sum_value
+          c.step-after.ensures.total_value,
     )
 
 pub returns : goal.returns
 returns c =
     let all : c.loop-i.i ≡ 12 = omega arith in
     let b = rw all at c.loop-i.invariant.1 in
-    (b.sum, b.total)
+    record {
+      sum_value = b.sum;
+      total_value = b.total;
+    }

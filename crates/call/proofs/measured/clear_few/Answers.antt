@@ -23,7 +23,11 @@ pub slice_bounds-clear_rows-end-6 : goal.slice_bounds-clear_rows-end-6
 slice_bounds-clear_rows-end-6 c = refl
 
 pub clear_rows-requires : goal.clear_rows-requires
-clear_rows-requires c = (c.requires.0, record { room = 15; enough = c.requires.1; zeros = refl {a = empty 15} })
+clear_rows-requires c =
+    record {
+      opened = c.requires.0;
+      blank = record { room = 15; enough = c.requires.1; zeros = refl {a = empty 15} };
+    }
 
 pub shape_of-cleared : goal.shape_of-cleared
 shape_of-cleared c = c.clear_rows.auto.1.1.1.1.1.1.1.1.1.1.0

@@ -25,7 +25,10 @@ slice_bounds-clear_rows-end-6 c = refl
 
 pub clear_rows-requires : goal.clear_rows-requires
 clear_rows-requires c =
-    (c.requires, record { room = 600; enough = (opened_inside _ _ _ _ c.requires).few; zeros = refl {a = empty 600} })
+    record {
+      opened = c.requires;
+      blank = record { room = 600; enough = (opened_inside _ _ _ _ c.requires).few; zeros = refl {a = empty 600} };
+    }
 
 pub shape_of-cleared : goal.shape_of-cleared
 shape_of-cleared c = c.clear_rows.auto.1.1.1.1.1.1.1.1.1.1.0

@@ -18,7 +18,7 @@ pub buffer_fault-short-requires : goal.buffer_fault-short-requires
 buffer_fault-short-requires c = tt
 
 pub read_rows-found-requires : goal.read_rows-found-requires
-read_rows-found-requires c = (opened_inside _ _ _ _ c.requires.0, blank-room _ _ c.requires.1)
+read_rows-found-requires c = (opened_inside _ _ _ _ c.requires.opened, blank-room _ _ c.requires.blank)
 
 pub and_then-requires : goal.and_then-requires
 and_then-requires c = tt
@@ -27,7 +27,7 @@ and_then-requires c = tt
 fault : (c : After-and_then) → let a = c.args in
     c.and_then.result ≡ call_fault a.book.now (length a.cleared.now) (length a.committed.now)
 fault c =
-    fault-rows _ _ _ _ c.requires.0 _ _ _ _ _ c.read_rows-found.ensures.found c.buffer_fault-short.ensures
+    fault-rows _ _ _ _ c.requires.opened _ _ _ _ _ c.read_rows-found.ensures.found c.buffer_fault-short.ensures
     c.and_then.ensures
 
 pub shape_of-prices-in-Refused : goal.shape_of-prices-in-Refused
@@ -71,15 +71,15 @@ columns c =
 stands : (c : In_default) → let a = c.args in
     Stands (contents_of a.book.now) a.p a.rows (columns c)
 stands c =
-    opened-stands _ _ _ _ c.requires.0 _ (columns c) _ (callable c).accepted c.requires.1 c.read_rows-found.ensures
+    opened-stands _ _ _ _ c.requires.opened _ (columns c) _ (callable c).accepted c.requires.blank c.read_rows-found.ensures
 
 pub clearing-requires : goal.clearing-requires
 clearing-requires c =
     let ok = callable (goal.at.clearing-requires c).In_default in
-    let count = c.requires.0.rows in (
-      record { contents = _; stands = stands (goal.at.clearing-requires c).In_default },
-      (omega (arith, count, ok.cleared-long), omega (arith, count, ok.committed-long)),
-    )
+    let count = c.requires.opened.rows in record {
+      some_stand = record { contents = _; stands = stands (goal.at.clearing-requires c).In_default };
+      n_in_bounds = (omega (arith, count, ok.cleared-long), omega (arith, count, ok.committed-long));
+    }
 
 pub shape_of-prices : goal.shape_of-prices
 shape_of-prices c = c.read_rows-found.auto.1.1.1.1.0

@@ -6,8 +6,8 @@ use Rattle.contest.proofs.limit.look.Goals as goal
 
 pub returns-then-count-spare : goal.returns-then-count-spare
 returns-then-count-spare c =
-    looked-low _ _ _ _ c.args.b c.requires.1.0 _ _ c.requires.1.1.0 c.under-count.ensures.0 c.if-count-spare.true
+    looked-low _ _ _ _ c.args.b c.requires.between _ _ c.requires.low_le_mid.0 c.under-count.ensures.0 c.if-count-spare.true
 
 pub returns : goal.returns
 returns c =
-    looked-high _ _ _ _ c.args.b c.requires.1.0 _ _ c.requires.1.1.1 c.under-count.ensures.0 c.if-count-spare.false c.under-count.ensures.1
+    looked-high _ _ _ _ c.args.b c.requires.between _ _ c.requires.low_le_mid.1 c.under-count.ensures.0 c.if-count-spare.false c.under-count.ensures.1

@@ -14,11 +14,15 @@ use Rattle.contest.proofs.limit.lower.Goals.{After-highest_to-last}
 moved : (c : After-highest_to-last) → let a = c.args in
     Between (contenders a.standings.now) (key_at a.keys.now) a.n a.spare
     (record { low = a.b.low; few = a.b.few; high = c.highest_to-last.result + 1; many = a.b.many })
-moved c = moved_down _ _ _ _ _ c.requires.1 _ c.highest_to-last.ensures
+moved c = moved_down _ _ _ _ _ c.requires.between _ c.highest_to-last.ensures
 
 pub look-requires : goal.look-requires
 look-requires c =
-    (c.requires.0, (moved (goal.at.look-requires c).After-highest_to-last, omega (arith, c.highest_to-last.ensures.least)))
+    record {
+      keyed = c.requires.keyed;
+      between = moved (goal.at.look-requires c).After-highest_to-last;
+      low_le_mid = omega (arith, c.highest_to-last.ensures.least);
+    }
 
 pub returns : goal.returns
 returns c = record { between = c.look.ensures.closer.between; apart = omega (arith, c.look.ensures.closer.apart) }

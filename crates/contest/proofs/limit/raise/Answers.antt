@@ -13,14 +13,18 @@ use Rattle.contest.proofs.limit.raise.Goals.{After-lowest_from-low}
 moved : (c : After-lowest_from-low) → let a = c.args in
     Between (contenders a.standings.now) (key_at a.keys.now) a.n a.spare
     (record { low = c.lowest_from-low.result; few = a.b.few; high = a.b.high; many = a.b.many })
-moved c = moved_up _ _ _ _ _ c.requires.1 _ c.lowest_from-low.ensures
+moved c = moved_up _ _ _ _ _ c.requires.between _ c.lowest_from-low.ensures
 
 pub overflow_add-low : goal.overflow_add-low
 overflow_add-low c = omega (arith, (moved (goal.at.overflow_add-low c).After-lowest_from-low).ordered)
 
 pub look-requires : goal.look-requires
 look-requires c =
-    (c.requires.0, (moved (goal.at.look-requires c).After-lowest_from-low, omega (arith, (moved (goal.at.look-requires c).After-lowest_from-low).ordered)))
+    record {
+      keyed = c.requires.keyed;
+      between = moved (goal.at.look-requires c).After-lowest_from-low;
+      low_le_mid = omega (arith, (moved (goal.at.look-requires c).After-lowest_from-low).ordered);
+    }
 
 pub returns : goal.returns
 returns c = record { between = c.look.ensures.closer.between; apart = omega (arith, c.look.ensures.closer.apart) }

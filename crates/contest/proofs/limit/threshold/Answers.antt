@@ -39,7 +39,12 @@ probe-mid-requires c =
     }
 
 pub turn-next-requires : goal.turn-next-requires
-turn-next-requires c = (search rules, (c.loop-b.invariant, omega (arith, c.probe-mid.ensures)))
+turn-next-requires c =
+    record {
+      keyed = search rules;
+      between = c.loop-b.invariant;
+      low_le_mid = omega (arith, c.probe-mid.ensures);
+    }
 
 pub loop-b-smaller : goal.loop-b-smaller
 loop-b-smaller c =

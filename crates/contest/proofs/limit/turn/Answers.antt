@@ -10,19 +10,27 @@ pub overflow_sub-a : goal.overflow_sub-a
 overflow_sub-a c = few-many _ _ _ _ _ c.look-a.ensures.closer.between
 
 pub overflow_sub-b : goal.overflow_sub-b
-overflow_sub-b c = few-many _ _ _ _ _ c.requires.1.0
+overflow_sub-b c = few-many _ _ _ _ _ c.requires.between
 
 pub returns-then-a-b : goal.returns-then-a-b
 returns-then-a-b c = c.look-a.ensures
 
 pub raise-requires : goal.raise-requires
-raise-requires c = (c.requires.0, c.look-a.ensures.closer.between)
+raise-requires c =
+    record {
+      keyed = c.requires.keyed;
+      between = c.look-a.ensures.closer.between;
+    }
 
 pub returns-then-b-a : goal.returns-then-b-a
 returns-then-b-a c = looked-then _ _ _ _ _ _ _ _ c.look-a.ensures c.raise.ensures
 
 pub lower-requires : goal.lower-requires
-lower-requires c = (c.requires.0, c.look-a.ensures.closer.between)
+lower-requires c =
+    record {
+      keyed = c.requires.keyed;
+      between = c.look-a.ensures.closer.between;
+    }
 
 pub returns : goal.returns
 returns c = looked-then _ _ _ _ _ _ _ _ c.look-a.ensures c.lower.ensures

@@ -35,7 +35,11 @@ upto : (c : After-supply_at-reach) → c.narrow-at.result.below ≤ c.supply_at-
 upto c = below-upto _ c.next_tried-price.result _ _ (below c) c.supply_at-reach.ensures.0
 
 pub narrowed-at-requires : goal.narrowed-at-requires
-narrowed-at-requires c = ((c.requires.0, c.requires.1, under_whole _ _ _ _ (omega arith)), (omega arith, omega arith))
+narrowed-at-requires c =
+    record {
+      shaped = (c.requires.0, c.requires.1, under_whole _ _ _ _ (omega arith));
+      from_le_price = (omega arith, omega arith);
+    }
 
 pub level_at-level-requires : goal.level_at-level-requires
 level_at-level-requires c =

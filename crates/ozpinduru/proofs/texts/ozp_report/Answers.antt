@@ -8,5 +8,5 @@ use Rattle.ozpinduru.proofs.texts.ozp_report.Goals as goal
 
 pub returns : goal.returns
 returns c =
-    let made = c.put_report-end.ensures.0 in
+    let made = c.put_report-end.ensures.fitted in
     told-as (written-taken _ _ (omega (arith, made.fits)) made.written) c.put_text.ensures

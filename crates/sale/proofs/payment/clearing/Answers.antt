@@ -22,15 +22,15 @@ use Rattle.sale.proofs.payment.clearing.Goals.{After-mills_of, After-sell-sale}
 
 pub region_curve-requires : goal.region_curve-requires
 region_curve-requires c =
-    let s = c.requires.0.stands in
+    let s = c.requires.some_stand.stands in
     subst Ranged (sym s.own) s.clearable.parameters
 
 pub sell-sale-requires : goal.sell-sale-requires
 sell-sale-requires c =
-    let s = c.requires.0.stands in (
-      (c.region_curve.ensures.1, columns-rows _ _ _ _ s),
-      (columns-ordered _ _ _ _ s, c.requires.1.0),
-    )
+    let s = c.requires.some_stand.stands in record {
+      shaped = (c.region_curve.ensures.1, columns-rows _ _ _ _ s);
+      ordered = (columns-ordered _ _ _ _ s, c.requires.n_in_bounds.0);
+    }
 
 abbrev columns : After-sell-sale → Columns
 columns c =
@@ -44,26 +44,26 @@ amounts c = c.sell-sale.new.1.1.1.1.1.1.1.0
 sold : (c : After-sell-sale) (k : Contents) → Stands k c.args.p c.args.n (columns c)
     → SoldAs k c.args.cleared.now c.sell-sale.result (amounts c)
 sold c k s =
-    sold-contents k _ _ (columns c) s _ c.region_curve.ensures.0 _ _ _ c.requires.1.0 c.sell-sale.ensures
+    sold-contents k _ _ (columns c) s _ c.region_curve.ensures.0 _ _ _ c.requires.n_in_bounds.0 c.sell-sale.ensures
 
 -- of some contents that stand there
-some : (c : After-sell-sale) → SoldAs c.requires.0.contents c.args.cleared.now c.sell-sale.result (amounts c)
-some c = sold c c.requires.0.contents c.requires.0.stands
+some : (c : After-sell-sale) → SoldAs c.requires.some_stand.contents c.args.cleared.now c.sell-sale.result (amounts c)
+some c = sold c c.requires.some_stand.contents c.requires.some_stand.stands
 
 pub commit-past-requires : goal.commit-past-requires
 commit-past-requires c =
-    (cleared-committable _ _ _ (columns (goal.at.commit-past-requires c).After-sell-sale) c.requires.0.stands _ (amounts (goal.at.commit-past-requires c).After-sell-sale) c.requires.1.0 (some (goal.at.commit-past-requires c).After-sell-sale).amounts, c.requires.1.1)
+    (cleared-committable _ _ _ (columns (goal.at.commit-past-requires c).After-sell-sale) c.requires.some_stand.stands _ (amounts (goal.at.commit-past-requires c).After-sell-sale) c.requires.n_in_bounds.0 (some (goal.at.commit-past-requires c).After-sell-sale).amounts, c.requires.n_in_bounds.1)
 
 -- the price on what cleared, and all make-whole
 daily-most : (c : After-mills_of) → c.mills_of.result + c.mills_of-make_whole.result ≤ 117178068800000
 daily-most c =
-    let s = c.requires.0.stands in
+    let s = c.requires.some_stand.stands in
     omega (
       arith,
       c.mills_of.ensures,
       mills-most _ _ _ (columns ⟦After-sell⟧) s _ _ (some ⟦After-sell⟧).quote (some ⟦After-sell⟧).quantity,
       c.mills_of-make_whole.ensures,
-      whole-most _ _ _ (columns ⟦After-sell⟧) s _ _ (some ⟦After-sell⟧).quote c.commit-past.ensures.1.1,
+      whole-most _ _ _ (columns ⟦After-sell⟧) s _ _ (some ⟦After-sell⟧).quote c.commit-past.ensures.value.1,
     )
 
 pub overflow_add-daily : goal.overflow_add-daily
@@ -75,7 +75,7 @@ overflow_mul-result c =
 
 pub returns : goal.returns
 returns c =
-    let long = c.requires.1.0 in
+    let long = c.requires.n_in_bounds.0 in
     let sale = sold (goal.at.returns c).After-sell-sale k s in
     let paid = c.commit-past.ensures in
     record {

@@ -29,7 +29,7 @@ tenths c = c.award.new.1.1.1.1.1.0
 -- each row has its key
 keyed : (c : After-line_up) (i : ℕ) → i < c.args.n
     → get_or (keys c) i 0 ≡ row_key c.args.level c.args.prices.now c.args.quantities.now i
-keyed c = filled_row _ _ _ c.line_up.ensures.0 (search rules)
+keyed c = filled_row _ _ _ c.line_up.ensures.keys_after (search rules)
 
 abbrev at_level : After-line_up → ℕ → Bool
 at_level c i = eqb (get_or c.args.prices.now i 0) c.args.level.price
@@ -37,18 +37,18 @@ at_level c i = eqb (get_or c.args.prices.now i 0) c.args.level.price
 -- each row stands at 1 where it is at the level, else at 0
 stands : (c : After-line_up) (i : ℕ) → i < c.args.n
     → get_or (standings c) i 0 ≡ cond (at_level c i) 1 0
-stands c = filled_row _ _ _ c.line_up.ensures.1 (search rules)
+stands c = filled_row _ _ _ c.line_up.ensures.standings_after (search rules)
 
 pub award-requires : goal.award-requires
 award-requires c =
     let p = c.requires in
     record {
-      first = omega (arith, length-filling _ _ _ c.line_up.ensures.0, p.divides.rows.few);
-      second = omega (arith, length-filling _ _ _ c.halve.ensures.0, p.divides.rows.few);
-      third = omega (arith, length-filling _ _ _ c.halve.ensures.1, p.divides.rows.few);
+      first = omega (arith, length-filling _ _ _ c.line_up.ensures.keys_after, p.divides.rows.few);
+      second = omega (arith, length-filling _ _ _ c.halve.ensures.highs_after, p.divides.rows.few);
+      third = omega (arith, length-filling _ _ _ c.halve.ensures.lows_after, p.divides.rows.few);
       fourth = p.ordered.resources-long;
       fifth = p.ordered.steps-long;
-      standing = omega (arith, length-filling _ _ _ c.line_up.ensures.1, p.divides.rows.few);
+      standing = omega (arith, length-filling _ _ _ c.line_up.ensures.standings_after, p.divides.rows.few);
       few = p.divides.rows.few;
       fresh = λ i h. standing-most (at_level (goal.at.award-requires c).After-line_up i) (get_or (standings (goal.at.award-requires c).After-line_up) i 0) (stands (goal.at.award-requires c).After-line_up i h);
     }
@@ -64,8 +64,8 @@ halves : (c : After-line_up) (i : ℕ) → i < c.args.n
     → (get_or (highs c) i 0 ≡ high_half c.args.stamps.now i) × (get_or (lows c) i 0 ≡ low_half c.args.stamps.now i)
 halves c i h =
     let few = c.requires.divides.rows.few in (
-      filled_row _ _ _ c.halve.ensures.0 (search rules) i h,
-      filled_row _ _ _ c.halve.ensures.1 (search rules) i h,
+      filled_row _ _ _ c.halve.ensures.highs_after (search rules) i h,
+      filled_row _ _ _ c.halve.ensures.lows_after (search rules) i h,
     )
 
 pub add-requires : goal.add-requires

@@ -37,4 +37,7 @@ pub returns : goal.returns
 returns c =
     let h = c.loop-row.invariant in
     let end = le_antisymm h.0 c.loop-row-test.false in
-    (filled-all _ _ h.1 end, filled-all _ _ h.2 end)
+    record {
+      highs_after = filled-all _ _ h.1 end;
+      lows_after = filled-all _ _ h.2 end;
+    }

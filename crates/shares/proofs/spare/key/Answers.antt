@@ -14,7 +14,7 @@ left : (c : After-exact) → let a = c.args in
     (a.share * a.level.sum + a.quantity * a.level.amount % a.level.sum ≡ c.exact.result)
     × (a.quantity * a.level.amount % a.level.sum < a.level.sum)
 left c =
-    let l = part_left _ _ _ _ c.requires.0 c.requires.1 c.if-price-level.true in
+    let l = part_left _ _ _ _ c.requires.divides c.requires.share_value c.if-price-level.true in
     (l.0 ∙ sym c.exact.ensures.0, l.1)
 
 pub overflow_mul-left : goal.overflow_mul-left
@@ -25,7 +25,7 @@ overflow_sub-left c = omega (arith, (left (goal.at.overflow_sub-left c).After-ex
 
 pub overflow_cast-result : goal.overflow_cast-result
 overflow_cast-result c =
-    omega (arith, (left (goal.at.overflow_cast-result c).After-exact).0, (left (goal.at.overflow_cast-result c).After-exact).1, c.requires.0.low)
+    omega (arith, (left (goal.at.overflow_cast-result c).After-exact).0, (left (goal.at.overflow_cast-result c).After-exact).1, c.requires.divides.low)
 
 pub overflow_sub-result : goal.overflow_sub-result
 overflow_sub-result c =

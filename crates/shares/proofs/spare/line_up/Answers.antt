@@ -17,7 +17,10 @@ loop-row-init c = (search rules, filled_none _ _, filled_none _ _)
 pub key-requires : goal.key-requires
 key-requires c =
     let l = c.loop-row.row in
-    (c.requires.0.each l (search rules), c.requires.1.0.row l (search rules))
+    record {
+      divides = c.requires.divides_rows.each l (search rules);
+      share_value = c.requires.holds_parts.row l (search rules);
+    }
 
 pub bounds-keys-row : goal.bounds-keys-row
 bounds-keys-row c = omega (arith, length-filling _ _ _ c.loop-row.invariant.1)
@@ -41,4 +44,7 @@ pub returns : goal.returns
 returns c =
     let h = c.loop-row.invariant in
     let end = le_antisymm h.0 c.loop-row-test.false in
-    (filled-all _ _ h.1 end, filled-all _ _ h.2 end)
+    record {
+      keys_after = filled-all _ _ h.1 end;
+      standings_after = filled-all _ _ h.2 end;
+    }

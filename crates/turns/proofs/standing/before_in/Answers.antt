@@ -20,7 +20,7 @@ loop-row-init c = (omega arith, added_none _, omega arith)
 
 pub one_before-count-requires : goal.one_before-count-requires
 one_before-count-requires c =
-    (c.requires.1.some c.loop-row.row (omega arith), c.requires.0.0.small c.loop-row.row (omega arith))
+    (c.requires.parted.some c.loop-row.row (omega arith), c.requires.row_lists.0.small c.loop-row.row (omega arith))
 
 pub loop-row-preserved : goal.loop-row-preserved
 loop-row-preserved c = (omega arith, added_more _ _ c.loop-row.invariant.1 c.one_before-count.ensures.0, omega arith)

@@ -15,7 +15,11 @@ pub contender_at-own-requires : goal.contender_at-own-requires
 contender_at-own-requires c = c.requires
 
 pub before_in-requires : goal.before_in-requires
-before_in-requires c = ((c.requires.0, c.requires.1), c.level_at-level.ensures.parted)
+before_in-requires c =
+    record {
+      row_lists = (c.requires.0, c.requires.1);
+      parted = c.level_at-level.ensures.parted;
+    }
 
 -- the rows, as offers
 abbrev rows : Start → Offers

@@ -16,25 +16,25 @@ rows c =
 
 pub returns-then-spares-eq0 : goal.returns-then-spares-eq0
 returns-then-spares-eq0 c =
-    rival-no-spare (rows (goal.at.returns-then-spares-eq0 c).Start) c.args.x c.args.row (sym c.requires.1.1 ∙ c.if-spares-eq0.true)
+    rival-no-spare (rows (goal.at.returns-then-spares-eq0 c).Start) c.args.x c.args.row (sym c.requires.spares_value ∙ c.if-spares-eq0.true)
 
 pub row_at-other-requires : goal.row_at-other-requires
-row_at-other-requires c = (c.requires.0.0, c.requires.0.1)
+row_at-other-requires c = (c.requires.row_lists.0, c.requires.row_lists.1)
 
 pub contender_at-own-requires : goal.contender_at-own-requires
-contender_at-own-requires c = c.requires.0
+contender_at-own-requires c = c.requires.row_lists
 
 pub contender_at-rival-requires : goal.contender_at-rival-requires
-contender_at-rival-requires c = (c.requires.0.0, c.requires.0.1, c.if-other-n.true)
+contender_at-rival-requires c = (c.requires.row_lists.0, c.requires.row_lists.1, c.if-other-n.true)
 
 pub returns-then-other-n : goal.returns-then-other-n
 returns-then-other-n c =
-    rival-against (rows (goal.at.returns-then-other-n c).Start) c.args.x c.args.row _ _ _ _ c.requires.1.0 c.requires.1.1
+    rival-against (rows (goal.at.returns-then-other-n c).Start) c.args.x c.args.row _ _ _ _ c.requires.place_value c.requires.spares_value
     c.other_side.ensures c.row_at-other.ensures c.if-spares-eq0.false
     _ _ _ c.if-other-n.true
     c.contender_at-own.ensures c.contender_at-rival.ensures c.decided.ensures
 
 pub returns-else-other-n : goal.returns-else-other-n
 returns-else-other-n c =
-    rival-none (rows (goal.at.returns-else-other-n c).Start) c.args.x c.args.row _ _ _ _ c.requires.1.0 c.requires.1.1
+    rival-none (rows (goal.at.returns-else-other-n c).Start) c.args.x c.args.row _ _ _ _ c.requires.place_value c.requires.spares_value
     c.other_side.ensures c.row_at-other.ensures c.if-spares-eq0.false c.if-other-n.false

@@ -36,7 +36,12 @@ spares c =
     ∙ spares-rows a.prices.now a.quantities.now a.stamps.now a.resources.now a.steps.now a.n a.x _
 
 pub rival_at-requires : goal.rival_at-requires
-rival_at-requires c = (c.requires, (c.rank_at-place.ensures.0, spares (goal.at.rival_at-requires c).After-tenth))
+rival_at-requires c =
+    record {
+      row_lists = c.requires;
+      place_value = c.rank_at-place.ensures.0;
+      spares_value = spares (goal.at.rival_at-requires c).After-tenth;
+    }
 
 pub returns : goal.returns
 returns c =

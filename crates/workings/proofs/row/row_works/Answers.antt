@@ -5,7 +5,7 @@ use borrow.Author.Rules.{rules}
 use Rattle.workings.proofs.row.row_works.Goals as goal
 
 pub turn_at-turn-requires : goal.turn_at-turn-requires
-turn_at-turn-requires c = (c.requires.0.0, c.requires.0.1, c.requires.1.1)
+turn_at-turn-requires c = (c.requires.row_lists.0, c.requires.row_lists.1, c.requires.n_in_bounds.1)
 
 pub committed_of-committed-requires : goal.committed_of-committed-requires
 committed_of-committed-requires c = tt

@@ -13,7 +13,10 @@ contenders_at-contenders-requires c = (c.requires.0.priced, c.requires.0.few)
 pub holder_at-requires : goal.holder_at-requires
 holder_at-requires c =
     let a = c.args in
-    (c.requires, c.contenders_at-contenders.ensures ∙ contenders-listed a.prices.now a.quantities.now a.stamps.now a.resources.now a.steps.now a.n a.price)
+    record {
+      row_lists = c.requires;
+      contenders_value = c.contenders_at-contenders.ensures ∙ contenders-listed a.prices.now a.quantities.now a.stamps.now a.resources.now a.steps.now a.n a.price;
+    }
 
 pub returns : goal.returns
 returns c =

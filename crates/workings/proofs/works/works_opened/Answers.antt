@@ -50,10 +50,10 @@ stands c =
 
 pub works_at-requires : goal.works_at-requires
 works_at-requires c =
-    let ok = stands (goal.at.works_at-requires c).In_default in (
-      (subst Ranged (sym ok.own) ok.clearable.parameters, columns-rows _ _ _ _ ok, leasts-long _ _ _ _ ok),
-      columns-ordered _ _ _ _ ok,
-    )
+    let ok = stands (goal.at.works_at-requires c).In_default in record {
+      ranged = (subst Ranged (sym ok.own) ok.clearable.parameters, columns-rows _ _ _ _ ok, leasts-long _ _ _ _ ok);
+      ordered = columns-ordered _ _ _ _ ok;
+    }
 
 pub returns : goal.returns
 returns c =
