@@ -8,7 +8,7 @@ use Prim.Native.Nat.{ℕ, ◌<◌}
 use lib.ListN.{length, get_or-eq_default}
 use native.Mathlib.Omega.{arith}
 use contract.Lifetimes.{Lfts}
-use denote.Ref.{Bor}
+use denote.Ref.{Bor, MutBor}
 use Rattle.laws.proofs.Cases.{by_order}
 use Rattle.values.specs.Values.{held}
 use Rattle.values.specs.declared.place.Offer.{Offer}
@@ -60,9 +60,9 @@ module _ (c c' : Contents) (s : SameButBlocks c c') where
   row_same row = rw (total-same, offers-same)
 
 -- DEMAND 3. Two accepted books that differ in minimum blocks alone clear the same, at the same price.
-module _ (κs κs' : Lfts 3) (book cleared₀ committed₀ cleared₁ committed₁ : Bor (List ℕ)) (k : Clearing)
+module _ (κs κs' : Lfts 3) (book : Bor (List ℕ)) (cleared₀ committed₀ cleared₁ committed₁ : MutBor (List ℕ)) (k : Clearing)
     (called : Called κs book cleared₀ committed₀ cleared₁ committed₁ (Answer-as-Cleared k))
-    (book' cleared₀' committed₀' cleared₁' committed₁' : Bor (List ℕ)) (k' : Clearing)
+    (book' : Bor (List ℕ)) (cleared₀' committed₀' cleared₁' committed₁' : MutBor (List ℕ)) (k' : Clearing)
     (called' : Called κs' book' cleared₀' committed₀' cleared₁' committed₁' (Answer-as-Cleared k')) where
   abbrev b : List ℕ
   b = book.now

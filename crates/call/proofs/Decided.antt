@@ -8,19 +8,19 @@ use mathlib.Core.Path.{◌≡◌, sym, ap, ◌∙◌}
 use mathlib.Core.List.{List}
 use Prim.Native.Nat.{ℕ}
 use contract.Lifetimes.{Lfts}
-use denote.Ref.{Bor}
+use denote.Ref.{Bor, MutBor}
 use Rattle.call.specs.Answer.{Outcome, answer_of}
 use Rattle.call.specs.declared.Answer.{Answer}
 use Rattle.call.proofs.clear.Reads as clear
 use Rattle.call.proofs.quote.Reads as quote
 
 -- `clear` was called with this book and these buffers, gave this answer and left these contents of the buffers
-abbrev pub Called : Lfts 3 → (book cleared committed cleared' committed' : Bor (List ℕ)) → Answer → Type 0
+abbrev pub Called : Lfts 3 → (book : Bor (List ℕ)) (cleared committed cleared' committed' : MutBor (List ℕ)) → Answer → Type 0
 Called κs book cleared committed cleared' committed' a =
     clear.Post κs (book, (cleared, (committed, tt))) a (book, (cleared', (committed', tt)))
 
 -- its outcome is the one of the definitions
-pub call-outcome : (κs : Lfts 3) (book cleared committed cleared' committed' : Bor (List ℕ)) (a : Answer)
+pub call-outcome : (κs : Lfts 3) (book : Bor (List ℕ)) (cleared committed cleared' committed' : MutBor (List ℕ)) (a : Answer)
     → Called κs book cleared committed cleared' committed' a
     → Outcome book.now cleared.now committed.now a cleared'.now committed'.now
 call-outcome κs book cleared committed cleared' committed' a called = called
@@ -37,8 +37,8 @@ outcome-same b cleared committed r s cleared₁ committed₁ cleared₂ committe
 )
 
 -- DEMAND 1. For every string of bytes, refused ones too, the call has one answer and leaves one content of each buffer.
-pub clear-decided : (κs : Lfts 3) (book₁ cleared₁ committed₁ book₂ cleared₂ committed₂ : Bor (List ℕ))
-    (cleared₁' committed₁' cleared₂' committed₂' : Bor (List ℕ)) (r s : Answer)
+pub clear-decided : (κs : Lfts 3) (book₁ : Bor (List ℕ)) (cleared₁ committed₁ : MutBor (List ℕ)) (book₂ : Bor (List ℕ)) (cleared₂ committed₂ : MutBor (List ℕ))
+    (cleared₁' committed₁' cleared₂' committed₂' : MutBor (List ℕ)) (r s : Answer)
     → book₁.now ≡ book₂.now → cleared₁.now ≡ cleared₂.now → committed₁.now ≡ committed₂.now
     → Called κs book₁ cleared₁ committed₁ cleared₁' committed₁' r
     → Called κs book₂ cleared₂ committed₂ cleared₂' committed₂' s

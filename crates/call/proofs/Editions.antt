@@ -6,7 +6,7 @@ use mathlib.Core.Path.{◌≡◌, ap}
 use mathlib.Core.List.{List}
 use Prim.Native.Nat.{ℕ, ◌+◌, ◌≤◌}
 use contract.Lifetimes.{Lfts}
-use denote.Ref.{Bor}
+use denote.Ref.{Bor, MutBor}
 use Rattle.values.specs.Values.{held}
 use Rattle.values.specs.declared.Value.TheVariants.{Given, Missing}
 use Rattle.values.specs.declared.head.Parameters.{Parameters}
@@ -24,7 +24,7 @@ use Rattle.call.specs.declared.Answer.TheVariants.{Cleared as Answer-as-Cleared}
 use Rattle.call.proofs.Decided.{Called, call-outcome}
 use Rattle.call.proofs.Outcomes.{cleared-accepted}
 
-module _ (κs : Lfts 3) (book cleared₀ committed₀ cleared₁ committed₁ : Bor (List ℕ)) (k : Clearing)
+module _ (κs : Lfts 3) (book : Bor (List ℕ)) (cleared₀ committed₀ cleared₁ committed₁ : MutBor (List ℕ)) (k : Clearing)
     (called : Called κs book cleared₀ committed₀ cleared₁ committed₁ (Answer-as-Cleared k)) where
   -- the book's parameters
   abbrev p : Parameters

@@ -7,7 +7,7 @@ use mathlib.Core.List.{List}
 use Prim.Native.Nat.{ℕ}
 use lib.ListN.{length}
 use contract.Lifetimes.{Lfts}
-use denote.Ref.{Bor}
+use denote.Ref.{Bor, MutBor}
 use Rattle.values.specs.Refusals.{and_then, buffer_by}
 use Rattle.values.specs.Contents.{Contents}
 use Rattle.values.specs.declared.Verdict.{Verdict}
@@ -75,8 +75,8 @@ module _ (b b' : List ℕ) (formed : form_fault b ≡ Passed) (formed' : form_fa
 
 -- REQUEST 06. Two calls, on books of good form whose contents differ in the edition alone and on buffers that hold the same, give
 -- the same answer and leave the same in both buffers.
-pub editions-answer-the-same : (κs κs' : Lfts 3) (book book' cleared committed cleared₀ committed₀ : Bor (List ℕ))
-    (cleared₁ committed₁ cleared₂ committed₂ : Bor (List ℕ)) (a a' : Answer)
+pub editions-answer-the-same : (κs κs' : Lfts 3) (book book' : Bor (List ℕ)) (cleared committed cleared₀ committed₀ : MutBor (List ℕ))
+    (cleared₁ committed₁ cleared₂ committed₂ : MutBor (List ℕ)) (a a' : Answer)
     → form_fault book.now ≡ Passed → form_fault book'.now ≡ Passed → SameButEdition (contents_of book.now) (contents_of book'.now)
     → cleared.now ≡ cleared₀.now → committed.now ≡ committed₀.now
     → Called κs book cleared committed cleared₁ committed₁ a → Called κs' book' cleared₀ committed₀ cleared₂ committed₂ a'

@@ -9,7 +9,7 @@ use mathlib.Core.Option.{some}
 use Prim.Native.Nat.{ℕ}
 use borrow.Author.Tests.{lt-leb}
 use contract.Lifetimes.{Lfts}
-use denote.Ref.{Bor}
+use denote.Ref.{Bor, MutBor}
 use Rattle.laws.proofs.Those.{those-inserted}
 use Rattle.values.specs.Contents.{Contents}
 use Rattle.values.specs.declared.place.Offer.{Offer}
@@ -35,7 +35,7 @@ pub record Sells (b : List ℕ) (k : Clearing) (cleared committed : List ℕ) : 
   pub clearing : k ≡ clearing_of (contents_of b)
   pub holds : Holds (contents_of b) cleared committed
 
-pub call-sells : (κs : Lfts 3) (book cleared₀ committed₀ cleared₁ committed₁ : Bor (List ℕ)) (k : Clearing)
+pub call-sells : (κs : Lfts 3) (book : Bor (List ℕ)) (cleared₀ committed₀ cleared₁ committed₁ : MutBor (List ℕ)) (k : Clearing)
     → Called κs book cleared₀ committed₀ cleared₁ committed₁ (Answer-as-Cleared k)
     → Sells book.now k cleared₁.now committed₁.now
 call-sells κs book cleared₀ committed₀ cleared₁ committed₁ k called =
@@ -92,9 +92,9 @@ back : (p : ℕ) (c c' : Contents) → SameToPrice p c c' → SameToPrice p c' c
 back p c c' s = record { parameters = sym s.parameters; offers = sym s.offers }
 
 -- Two calls that cleared, the first at the price p.
-module _ (κs κs' : Lfts 3) (book cleared₀ committed₀ cleared₁ committed₁ : Bor (List ℕ)) (k : Clearing)
+module _ (κs κs' : Lfts 3) (book : Bor (List ℕ)) (cleared₀ committed₀ cleared₁ committed₁ : MutBor (List ℕ)) (k : Clearing)
     (called : Called κs book cleared₀ committed₀ cleared₁ committed₁ (Answer-as-Cleared k))
-    (book' cleared₀' committed₀' cleared₁' committed₁' : Bor (List ℕ)) (k' : Clearing)
+    (book' : Bor (List ℕ)) (cleared₀' committed₀' cleared₁' committed₁' : MutBor (List ℕ)) (k' : Clearing)
     (called' : Called κs' book' cleared₀' committed₀' cleared₁' committed₁' (Answer-as-Cleared k'))
     (p : CentsPerMwDay) (priced : k.price ≡ Price p) where
   abbrev c : Contents

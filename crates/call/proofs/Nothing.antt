@@ -5,7 +5,7 @@ use mathlib.Core.List.{List}
 use mathlib.Core.Option.{none}
 use Prim.Native.Nat.{ℕ}
 use contract.Lifetimes.{Lfts}
-use denote.Ref.{Bor}
+use denote.Ref.{Bor, MutBor}
 use Rattle.calendar.specs.Year.{days_of}
 use Rattle.auction.proofs.Price.{price-none}
 use Rattle.pricing.specs.Price.{as_price}
@@ -20,7 +20,7 @@ use Rattle.call.proofs.Decided.{Called, call-outcome}
 use Rattle.call.proofs.Empty.{make-whole-none, daily-none, year-none}
 use Rattle.call.proofs.Outcomes.{cleared-clearing}
 
-module _ (κs : Lfts 3) (book cleared₀ committed₀ cleared₁ committed₁ : Bor (List ℕ)) (k : Clearing)
+module _ (κs : Lfts 3) (book : Bor (List ℕ)) (cleared₀ committed₀ cleared₁ committed₁ : MutBor (List ℕ)) (k : Clearing)
     (called : Called κs book cleared₀ committed₀ cleared₁ committed₁ (Answer-as-Cleared k)) where
   abbrev b : List ℕ
   b = book.now

@@ -9,7 +9,7 @@ use Prim.Native.Nat.{ℕ, suc, ◌≤◌, ◌<◌}
 use native.Mathlib.Numerals.{add-one}
 use lib.ListN.{length, length-append, get_or-append}
 use contract.Lifetimes.{Lfts}
-use denote.Ref.{Bor}
+use denote.Ref.{Bor, MutBor}
 use Rattle.auction.specs.Clearing.{cleared_total, clearing_price}
 use Rattle.curve.specs.Price.{demand_of}
 use Rattle.region.specs.Region.{region_curve}
@@ -56,9 +56,9 @@ pub quoted-there : (x : Option ℕ) (p : CentsPerMwDay) → Price p ≡ as_price
 quoted-there none p e = cc
 quoted-there (some q) p e = cc
 
-module _ (κs κs' : Lfts 3) (book cleared₀ committed₀ cleared₁ committed₁ : Bor (List ℕ)) (k : Clearing)
+module _ (κs κs' : Lfts 3) (book : Bor (List ℕ)) (cleared₀ committed₀ cleared₁ committed₁ : MutBor (List ℕ)) (k : Clearing)
     (called : Called κs book cleared₀ committed₀ cleared₁ committed₁ (Answer-as-Cleared k))
-    (book' cleared₀' committed₀' cleared₁' committed₁' : Bor (List ℕ)) (k' : Clearing)
+    (book' : Bor (List ℕ)) (cleared₀' committed₀' cleared₁' committed₁' : MutBor (List ℕ)) (k' : Clearing)
     (called' : Called κs' book' cleared₀' committed₀' cleared₁' committed₁' (Answer-as-Cleared k'))
     (m : OneMoreOffer (contents_of book.now) (contents_of book'.now)) where
   abbrev b : List ℕ

@@ -5,14 +5,14 @@ use mathlib.Core.List.{List}
 use Prim.Native.Nat.{ℕ}
 use lib.ListN.{length}
 use contract.Lifetimes.{Lfts}
-use denote.Ref.{Bor}
+use denote.Ref.{Bor, MutBor}
 use Rattle.values.specs.declared.Verdict.TheVariants.{Refused}
 use Rattle.call.specs.Answer.{Outcome, call_fault}
 use Rattle.call.specs.declared.Answer.TheVariants.{Refused as Answer-as-Refused}
 use Rattle.call.proofs.Decided.{Called, call-outcome}
 use Rattle.call.proofs.Outcomes.{refused-first, refused-kept}
 
-module _ (κs : Lfts 3) (book cleared₀ committed₀ cleared₁ committed₁ : Bor (List ℕ)) (number place : ℕ)
+module _ (κs : Lfts 3) (book : Bor (List ℕ)) (cleared₀ committed₀ cleared₁ committed₁ : MutBor (List ℕ)) (number place : ℕ)
     (called : Called κs book cleared₀ committed₀ cleared₁ committed₁ (Answer-as-Refused number place)) where
   out : Outcome book.now cleared₀.now committed₀.now (Answer-as-Refused number place) cleared₁.now committed₁.now
   out = call-outcome κs book cleared₀ committed₀ cleared₁ committed₁ (Answer-as-Refused number place) called

@@ -10,7 +10,7 @@ use Prim.Native.Nat.{ℕ, ◌≤◌, ◌<◌}
 use native.Mathlib.Omega.{arith}
 use lib.ListN.{length, get_or}
 use contract.Lifetimes.{Lfts}
-use denote.Ref.{Bor}
+use denote.Ref.{Bor, MutBor}
 use Rattle.laws.proofs.Cases.{by_order}
 use Rattle.laws.proofs.Sums.{sum_to-place}
 use Rattle.auction.specs.Offers.{Offers, Demand}
@@ -79,7 +79,7 @@ dearer-nothing d o x by i j l m dearer part =
     (λ h. by.nothing p priced j m (omega arith))
     (λ h. absurd (part (by.whole p priced i l h))))
 
-module _ (κs : Lfts 3) (book cleared₀ committed₀ cleared₁ committed₁ : Bor (List ℕ)) (k : Clearing)
+module _ (κs : Lfts 3) (book : Bor (List ℕ)) (cleared₀ committed₀ cleared₁ committed₁ : MutBor (List ℕ)) (k : Clearing)
     (called : Called κs book cleared₀ committed₀ cleared₁ committed₁ (Answer-as-Cleared k)) where
   -- REQUEST 06. Where a row does not clear whole, every dearer row clears nothing: no step of a resource clears before its
   -- cheaper steps are cleared whole.

@@ -9,7 +9,7 @@ use Prim.Native.Nat.{ℕ}
 use native.Mathlib.Omega.{arith}
 use lib.ListN.{length}
 use contract.Lifetimes.{Lfts}
-use denote.Ref.{Bor}
+use denote.Ref.{Bor, MutBor}
 use Rattle.values.specs.Contents.{Contents}
 use Rattle.values.specs.declared.Verdict.{Verdict}
 use Rattle.values.specs.declared.Verdict.TheVariants.{Passed, Refused}
@@ -121,9 +121,9 @@ module _ (κs : Lfts 2) (first second : Bor (List ℕ)) (r : Comparison)
 
   -- REQUEST 05. And then two calls on these books sell the same.
   pub compare-losers : (p shared : ℕ) → r ≡ Applies p shared
-      → (κs₁ κs₂ : Lfts 3) (cleared₀ committed₀ cleared₁ committed₁ : Bor (List ℕ)) (k : Clearing)
+      → (κs₁ κs₂ : Lfts 3) (cleared₀ committed₀ cleared₁ committed₁ : MutBor (List ℕ)) (k : Clearing)
       → Called κs₁ first cleared₀ committed₀ cleared₁ committed₁ (Answer-as-Cleared k)
-      → (cleared₀' committed₀' cleared₁' committed₁' : Bor (List ℕ)) (k' : Clearing)
+      → (cleared₀' committed₀' cleared₁' committed₁' : MutBor (List ℕ)) (k' : Clearing)
       → Called κs₂ second cleared₀' committed₀' cleared₁' committed₁' (Answer-as-Cleared k')
       → SameSale p (contents_of b) (contents_of b') k k' cleared₁.now committed₁.now cleared₁'.now committed₁'.now
   compare-losers p shared e κs₁ κs₂ cleared₀ committed₀ cleared₁ committed₁ k called cleared₀' committed₀' cleared₁' committed₁' k' called' =

@@ -4,7 +4,7 @@ use mathlib.Core.Path.{◌≡◌}
 use mathlib.Core.List.{List}
 use Prim.Native.Nat.{ℕ}
 use contract.Lifetimes.{Lfts}
-use denote.Ref.{Bor}
+use denote.Ref.{MutBor}
 use Rattle.values.specs.declared.head.Parameters.{Parameters}
 use Rattle.values.specs.declared.place.Offer.{Offer}
 use Rattle.wording.proofs.Worded.{one_form}
@@ -18,7 +18,7 @@ use Rattle.faultlines.proofs.wrong.put_rules.Reads as put-rules
 use Rattle.faultlines.proofs.missing.put_missing_parameters.Reads as put-missing-parameters
 use Rattle.faultlines.proofs.missing.put_missing_price.Reads as put-missing-price
 
-module _ (κs : Lfts 1) (room after other : Bor (List ℕ)) (at r s : ℕ) where
+module _ (κs : Lfts 1) (room after other : MutBor (List ℕ)) (at r s : ℕ) where
   -- the length, by the contract of `put_length`
   pub put-length-decided : (bytes : ℕ)
       → (e : put-length.Post κs (room, (at, (bytes, tt))) r (after, (at, (bytes, tt))))

@@ -4,11 +4,11 @@ use mathlib.Core.Path.{◌≡◌, sym, ◌∙◌}
 use mathlib.Core.List.{List}
 use Prim.Native.Nat.{ℕ}
 use contract.Lifetimes.{Lfts}
-use denote.Ref.{Bor}
+use denote.Ref.{Bor, MutBor}
 use Rattle.forms.proofs.form.put_form.Reads as put-form
 
 -- one room after, and one place
-pub put-form-decided : (κs : Lfts 3) (room after other : Bor (List ℕ)) (at : ℕ) (form numbers : Bor (List ℕ)) (r s : ℕ)
+pub put-form-decided : (κs : Lfts 3) (room after other : MutBor (List ℕ)) (at : ℕ) (form numbers : Bor (List ℕ)) (r s : ℕ)
     → put-form.Post κs (room, (at, (form, (numbers, tt)))) r (after, (at, (form, (numbers, tt))))
     → put-form.Post κs (room, (at, (form, (numbers, tt)))) s (other, (at, (form, (numbers, tt))))
     → (r ≡ s) × (after.now ≡ other.now)

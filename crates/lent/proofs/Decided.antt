@@ -5,7 +5,7 @@ use mathlib.Core.Path.{◌≡◌, sym, ap, ◌∙◌}
 use mathlib.Core.List.{List}
 use Prim.Native.Nat.{ℕ}
 use contract.Lifetimes.{Lfts}
-use denote.Ref.{Bor}
+use denote.Ref.{MutBor}
 use Rattle.values.specs.Contents.{Contents}
 use Rattle.values.specs.declared.head.Parameters.{Parameters}
 use Rattle.places.specs.inner.Rows.{put_row}
@@ -32,7 +32,7 @@ pub begin-decided : (edition : ℕ) (p : OzpParameters) (rows : ℕ) (r s : Draf
 begin-decided edition p rows r s e f = e ∙ sym f
 
 -- a row that is tested and what is kept of it, by the contract of `test_row`
-pub test-row-decided : (κs : Lfts 1) (d : Draft) (edition i : ℕ) (row : OzpRow) (kept₁ kept₂ kept₁' kept₂' : Bor (List ℕ)) (r s : Draft)
+pub test-row-decided : (κs : Lfts 1) (d : Draft) (edition i : ℕ) (row : OzpRow) (kept₁ kept₂ kept₁' kept₂' : MutBor (List ℕ)) (r s : Draft)
     → kept₁.now ≡ kept₂.now
     → test-row.Post κs (d, (edition, (i, (row, (kept₁, tt))))) r (d, (edition, (i, (row, (kept₁', tt)))))
     → test-row.Post κs (d, (edition, (i, (row, (kept₂, tt))))) s (d, (edition, (i, (row, (kept₂', tt)))))
@@ -41,7 +41,7 @@ test-row-decided κs d edition i row kept₁ kept₂ kept₁' kept₂' r s same 
     (e.0 ∙ sym f.0, e.1 ∙ ap (λ (k : List ℕ). kept_row k i (offer_in row)) same ∙ sym f.1)
 
 -- 8 of what was kept, by the contract of `unrepeated`
-pub unrepeated-decided : (κs : Lfts 1) (d : Draft) (kept other : Bor (List ℕ)) (r s : Draft)
+pub unrepeated-decided : (κs : Lfts 1) (d : Draft) (kept other : MutBor (List ℕ)) (r s : Draft)
     → kept.now ≡ other.now
     → unrepeated.Post κs (d, (kept, tt)) r (d, (kept, tt))
     → unrepeated.Post κs (d, (other, tt)) s (d, (other, tt))
@@ -54,7 +54,7 @@ opened-same : (d : Draft) (room : List ℕ) (r s : Draft) (room₁ room₂ : Lis
     → (r ≡ s) × (room₁ ≡ room₂)
 opened-same d room r s room₁ room₂ x y = (x.answered ∙ sym y.answered, x.room-holds ∙ sym y.room-holds)
 
-pub open-room-decided : (κs : Lfts 1) (d : Draft) (room₁ room₂ room₁' room₂' : Bor (List ℕ)) (r s : Draft)
+pub open-room-decided : (κs : Lfts 1) (d : Draft) (room₁ room₂ room₁' room₂' : MutBor (List ℕ)) (r s : Draft)
     → room₁.now ≡ room₂.now
     → open-room.Post κs (d, (room₁, tt)) r (d, (room₁', tt))
     → open-room.Post κs (d, (room₂, tt)) s (d, (room₂', tt))
@@ -62,7 +62,7 @@ pub open-room-decided : (κs : Lfts 1) (d : Draft) (room₁ room₂ room₁' roo
 open-room-decided κs d room₁ room₂ room₁' room₂' r s e x y = opened-same d room₁.now _ _ _ _ x (rw e y)
 
 -- a row in its place, by the contract of `put_row`
-pub put-row-decided : (κs : Lfts 1) (room₁ room₂ room₁' room₂' : Bor (List ℕ)) (edition i : ℕ) (row : OzpRow)
+pub put-row-decided : (κs : Lfts 1) (room₁ room₂ room₁' room₂' : MutBor (List ℕ)) (edition i : ℕ) (row : OzpRow)
     → room₁.now ≡ room₂.now
     → put-row.Post κs (room₁, (edition, (i, (row, tt)))) tt (room₁', (edition, (i, (row, tt))))
     → put-row.Post κs (room₂, (edition, (i, (row, tt)))) tt (room₂', (edition, (i, (row, tt))))
@@ -74,7 +74,7 @@ closed_same : (edition : ℕ) (p : Parameters) (d : Draft) (room : List ℕ) (r 
     → Closed edition p d room r room₁ → Closed edition p d room s room₂ → (r ≡ s) × (room₁ ≡ room₂)
 closed_same edition p d room r s room₁ room₂ x y = (x.answered ∙ sym y.answered, x.room-holds ∙ sym y.room-holds)
 
-pub close-room-decided : (κs : Lfts 1) (d : Draft) (edition : ℕ) (p : OzpParameters) (room₁ room₂ room₁' room₂' : Bor (List ℕ)) (r s : OzpText)
+pub close-room-decided : (κs : Lfts 1) (d : Draft) (edition : ℕ) (p : OzpParameters) (room₁ room₂ room₁' room₂' : MutBor (List ℕ)) (r s : OzpText)
     → room₁.now ≡ room₂.now
     → close-room.Post κs (d, (edition, (p, (room₁, tt)))) r (d, (edition, (p, (room₁', tt))))
     → close-room.Post κs (d, (edition, (p, (room₂, tt)))) s (d, (edition, (p, (room₂', tt))))

@@ -5,7 +5,7 @@ use mathlib.Core.Path.{◌≡◌}
 use mathlib.Core.List.{List}
 use Prim.Native.Nat.{ℕ}
 use contract.Lifetimes.{Lfts}
-use denote.Ref.{Bor}
+use denote.Ref.{MutBor}
 use Rattle.values.specs.declared.head.Parameters.{Parameters}
 use Rattle.curve.specs.declared.Curve.{Curve}
 use Rattle.pricing.specs.declared.ClearingPrice.{ClearingPrice}
@@ -20,7 +20,7 @@ use Rattle.lines.proofs.points.put_quantities.Reads as put-quantities
 use Rattle.lines.proofs.total.put_total.Reads as put-total
 use Rattle.lines.proofs.total.put_price.Reads as put-price
 
-module _ (κs : Lfts 1) (room after other : Bor (List ℕ)) (at r s : ℕ) where
+module _ (κs : Lfts 1) (room after other : MutBor (List ℕ)) (at r s : ℕ) where
   -- what a book states, by the contract of `put_stated`
   pub put-stated-decided : (edition : ℕ) (p : Parameters) (offers : ℕ)
       → (e : put-stated.Post κs (room, (at, (edition, (p, (offers, tt))))) r (after, (at, (edition, (p, (offers, tt))))))

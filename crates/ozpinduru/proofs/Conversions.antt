@@ -7,7 +7,7 @@ use mathlib.Core.List.{List}
 use Prim.Native.Nat.{ℕ, ◌<◌}
 use lib.ListN.{length, take}
 use contract.Lifetimes.{Lfts}
-use denote.Ref.{Bor}
+use denote.Ref.{Bor, MutBor}
 use Rattle.block.specs.Bytes.{byte}
 use Rattle.layout.specs.Read.{contents_of}
 use Rattle.book.proofs.Accepted.{sound-form}
@@ -30,8 +30,8 @@ same-but-edition b room k done bytes =
 
 -- Clearing answers the same before and after: of a book and of what it was converted to, two calls on buffers that hold the same give
 -- the same answer and leave the same in both buffers.
-pub converted-answers-the-same : (κs κs' : Lfts 3) (book book' cleared committed cleared₀ committed₀ : Bor (List ℕ))
-    (cleared₁ committed₁ cleared₂ committed₂ : Bor (List ℕ)) (a a' : Answer) (room : List ℕ) {r : OzpText} {room' : List ℕ}
+pub converted-answers-the-same : (κs κs' : Lfts 3) (book book' : Bor (List ℕ)) (cleared committed cleared₀ committed₀ : MutBor (List ℕ))
+    (cleared₁ committed₁ cleared₂ committed₂ : MutBor (List ℕ)) (a a' : Answer) (room : List ℕ) {r : OzpText} {room' : List ℕ}
     → ((i : ℕ) → i < length book.now → byte book.now i < 256)
     → Converted book.now room r room' → r.kind ≡ 1 → book'.now ≡ take r.bytes room'
     → cleared.now ≡ cleared₀.now → committed.now ≡ committed₀.now

@@ -12,7 +12,7 @@ use prog.Routine.{Routine}
 use types.Logic.{Logic}
 use contract.Lifetimes.{Lfts}
 use contract.Monad.{Fun, conj, fact, fact_i, guard-conj, conj-guard}
-use denote.Ref.{Bor}
+use denote.Ref.{Bor, MutBor}
 use denote.Triple.Clauses.{at_exit}
 use Rattle.layout.specs.Read.{contents_of}
 use Rattle.call.specs.Answer.{answer_of}
@@ -57,8 +57,8 @@ returned-same b cleared committed r s cleared₁ committed₁ cleared₂ committ
 )
 
 -- what a call returns, and both buffers, by the contract of `ozp_clear`
-pub ozp-clear-decided : (κs : Lfts 3) (book₁ cleared₁ committed₁ book₂ cleared₂ committed₂ : Bor (List ℕ))
-    (cleared₁' committed₁' cleared₂' committed₂' : Bor (List ℕ)) (r s : OzpAnswer)
+pub ozp-clear-decided : (κs : Lfts 3) (book₁ : Bor (List ℕ)) (cleared₁ committed₁ : MutBor (List ℕ)) (book₂ : Bor (List ℕ)) (cleared₂ committed₂ : MutBor (List ℕ))
+    (cleared₁' committed₁' cleared₂' committed₂' : MutBor (List ℕ)) (r s : OzpAnswer)
     → book₁.now ≡ book₂.now → cleared₁.now ≡ cleared₂.now → committed₁.now ≡ committed₂.now
     → ozp-clear.Post κs (book₁, (cleared₁, (committed₁, tt))) r (book₁, (cleared₁', (committed₁', tt)))
     → ozp-clear.Post κs (book₂, (cleared₂, (committed₂, tt))) s (book₂, (cleared₂', (committed₂', tt)))
@@ -103,7 +103,7 @@ ozp-version-decided r s e f = e ∙ sym f
 -- ---- texts
 
 -- the words of a number and the room, by the contract of `ozp_words`
-pub ozp-words-decided : (κs : Lfts 1) (number : ℕ) (room₁ room₂ room₁' room₂' : Bor (List ℕ)) (r s : OzpText)
+pub ozp-words-decided : (κs : Lfts 1) (number : ℕ) (room₁ room₂ room₁' room₂' : MutBor (List ℕ)) (r s : OzpText)
     → room₁.now ≡ room₂.now
     → ozp-words.Post κs (number, (room₁, tt)) r (number, (room₁', tt))
     → ozp-words.Post κs (number, (room₂, tt)) s (number, (room₂', tt))
@@ -111,7 +111,7 @@ pub ozp-words-decided : (κs : Lfts 1) (number : ℕ) (room₁ room₂ room₁' 
 ozp-words-decided κs number room₁ room₂ room₁' room₂' r s e x y = told_same _ room₁.now _ _ _ _ x (rw e y)
 
 -- the report of a book and the room, by the contract of `ozp_report`
-pub ozp-report-decided : (κs : Lfts 2) (book₁ room₁ book₂ room₂ room₁' room₂' : Bor (List ℕ)) (r s : OzpText)
+pub ozp-report-decided : (κs : Lfts 2) (book₁ : Bor (List ℕ)) (room₁ : MutBor (List ℕ)) (book₂ : Bor (List ℕ)) (room₂ room₁' room₂' : MutBor (List ℕ)) (r s : OzpText)
     → book₁.now ≡ book₂.now → room₁.now ≡ room₂.now
     → ozp-report.Post κs (book₁, (room₁, tt)) r (book₁, (room₁', tt))
     → ozp-report.Post κs (book₂, (room₂, tt)) s (book₂, (room₂', tt))
@@ -151,7 +151,7 @@ module _ {M : Type 1} {𝓤 : Ura M} (𝓛 : Logic 𝓤) (mem : Memory → SProp
       (ozp-write.clauses 𝓛 mem run κs (edition, (p, (rows, (room, tt))))).ensures tt r (at_exit ozp-write.ended κs (edition, (p, (rows, (room, tt)))) (tt, (tt, (tt, (room', tt)))))
 
   -- where it says both of the same edition, parameters, entries and room, both are the same: what is returned, and the room
-  pub ozp-write-decided : (rows₁ rows₂ : Bor (List OzpRow)) (room₁ room₂ : Bor (List ℕ)) (r s : OzpText) (room₁' room₂' : List ℕ)
+  pub ozp-write-decided : (rows₁ rows₂ : Bor (List OzpRow)) (room₁ room₂ : MutBor (List ℕ)) (r s : OzpText) (room₁' room₂' : List ℕ)
       → rows₁.now ≡ rows₂.now → room₁.now ≡ room₂.now
       → ent 𝓤 (conj 𝓤 (Written rows₁ room₁ r room₁') (Written rows₂ room₂ s room₂')) (fact 𝓤 ((r ≡ s) × (room₁' ≡ room₂')))
   ozp-write-decided rows₁ rows₂ room₁ room₂ r s room₁' room₂' e f =
@@ -160,7 +160,7 @@ module _ {M : Type 1} {𝓤 : Ura M} (𝓛 : Logic 𝓤) (mem : Memory → SProp
       (λ y. fact_i 𝓤 _ _ (wrote-same (contents_in edition p rows₁.now) room₁.now r s room₁' room₂' x (rw (e, f) y))))
 
 -- the book in the other edition and the room, by the contract of `ozp_convert`
-pub ozp-convert-decided : (κs : Lfts 2) (book₁ book₂ room₁ room₂ room₁' room₂' : Bor (List ℕ)) (r s : OzpText)
+pub ozp-convert-decided : (κs : Lfts 2) (book₁ book₂ : Bor (List ℕ)) (room₁ room₂ room₁' room₂' : MutBor (List ℕ)) (r s : OzpText)
     → book₁.now ≡ book₂.now → room₁.now ≡ room₂.now
     → ozp-convert.Post κs (book₁, (room₁, tt)) r (book₁, (room₁', tt))
     → ozp-convert.Post κs (book₂, (room₂, tt)) s (book₂, (room₂', tt))

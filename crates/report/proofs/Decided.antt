@@ -4,10 +4,10 @@ use mathlib.Core.Path.{◌≡◌, sym, ◌∙◌}
 use mathlib.Core.List.{List}
 use Prim.Native.Nat.{ℕ}
 use contract.Lifetimes.{Lfts}
-use denote.Ref.{Bor}
+use denote.Ref.{Bor, MutBor}
 use Rattle.report.proofs.put_report.Reads as put-report
 
-pub put-report-decided : (κs : Lfts 2) (out book after other : Bor (List ℕ)) (at r s : ℕ)
+pub put-report-decided : (κs : Lfts 2) (out : MutBor (List ℕ)) (book : Bor (List ℕ)) (after other : MutBor (List ℕ)) (at r s : ℕ)
     → put-report.Post κs (out, (at, (book, tt))) r (after, (at, (book, tt)))
     → put-report.Post κs (out, (at, (book, tt))) s (other, (at, (book, tt)))
     → (r ≡ s) × (after.now ≡ other.now)

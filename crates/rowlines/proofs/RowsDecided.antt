@@ -5,7 +5,7 @@ use mathlib.Core.Path.{◌≡◌}
 use mathlib.Core.List.{List}
 use Prim.Native.Nat.{ℕ}
 use contract.Lifetimes.{Lfts}
-use denote.Ref.{Bor}
+use denote.Ref.{MutBor}
 use Rattle.values.specs.declared.place.Offer.{Offer}
 use Rattle.pricing.specs.declared.ClearingPrice.{ClearingPrice}
 use Rattle.reasons.specs.declared.share.Share.{Share}
@@ -28,7 +28,7 @@ use Rattle.rowlines.proofs.division.put_left_behind.Reads as put-left-behind
 use Rattle.rowlines.proofs.rungs.put_ladder.Reads as put-ladder
 use Rattle.rowlines.proofs.rungs.put_rung.Reads as put-rung
 
-module _ (κs : Lfts 1) (room after other : Bor (List ℕ)) (at r s : ℕ) where
+module _ (κs : Lfts 1) (room after other : MutBor (List ℕ)) (at r s : ℕ) where
   -- the head of the table of rows, by the contract of `put_table_head`
   pub put-table-head-decided : (e : put-table-head.Post κs (room, (at, tt)) r (after, (at, tt)))
       → (f : put-table-head.Post κs (room, (at, tt)) s (other, (at, tt)))

@@ -4,7 +4,7 @@ use mathlib.Core.Path.{◌≡◌, sym, ◌∙◌}
 use mathlib.Core.List.{List}
 use Prim.Native.Nat.{ℕ}
 use contract.Lifetimes.{Lfts}
-use denote.Ref.{Bor}
+use denote.Ref.{Bor, MutBor}
 use Rattle.values.specs.declared.head.Parameters.{Parameters}
 use Rattle.columns.specs.inner.Columns.{columns_of}
 use Rattle.sale.specs.inner.Sale.{SomeStand}
@@ -12,7 +12,7 @@ use Rattle.sale.specs.declared.Clearing.{Clearing}
 use Rattle.sale.proofs.payment.clearing.Reads as clearing
 
 pub clearing-decided : (κs : Lfts 8) (p : Parameters) (n : ℕ) (prices quantities leasts resources stamps steps : Bor (List ℕ))
-    (cleared committed cleared₁ committed₁ cleared₂ committed₂ : Bor (List ℕ)) (r s : Clearing)
+    (cleared committed cleared₁ committed₁ cleared₂ committed₂ : MutBor (List ℕ)) (r s : Clearing)
     → SomeStand p n (columns_of prices.now quantities.now leasts.now resources.now stamps.now steps.now)
     → clearing.Post κs (p, (n, (prices, (quantities, (leasts, (resources, (stamps, (steps, (cleared, (committed, tt)))))))))) r
     (p, (n, (prices, (quantities, (leasts, (resources, (stamps, (steps, (cleared₁, (committed₁, tt))))))))))

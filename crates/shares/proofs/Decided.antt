@@ -6,7 +6,7 @@ use mathlib.Core.Path.{◌≡◌, sym, ◌∙◌}
 use mathlib.Core.List.{List}
 use Prim.Native.Nat.{ℕ}
 use contract.Lifetimes.{Lfts}
-use denote.Ref.{Bor}
+use denote.Ref.{Bor, MutBor}
 use lib.Seq.{ext_get_or}
 use Rattle.laws.proofs.Cases.{by_order}
 use Rattle.auction.specs.Offers.{Offers}
@@ -21,7 +21,7 @@ shared-alone o x before after other a b =
     (λ i h. by_order o.count i (λ l. a.past i l ∙ sym (b.past i l)) (λ l. a.row i l ∙ sym (b.row i l)))
 
 pub share-out-decided : (κs : Lfts 6) (prices quantities resources stamps steps : Bor (List ℕ)) (n : ℕ) (level : Level)
-    (out after other : Bor (List ℕ))
+    (out after other : MutBor (List ℕ))
     → share-out.Post κs (prices, (quantities, (resources, (stamps, (steps, (n, (level, (out, tt)))))))) tt
     (prices, (quantities, (resources, (stamps, (steps, (n, (level, (after, tt))))))))
     → share-out.Post κs (prices, (quantities, (resources, (stamps, (steps, (n, (level, (out, tt)))))))) tt

@@ -6,7 +6,7 @@ use mathlib.Core.Path.{◌≡◌, sym, ◌∙◌}
 use mathlib.Core.List.{List}
 use Prim.Native.Nat.{ℕ}
 use contract.Lifetimes.{Lfts}
-use denote.Ref.{Bor}
+use denote.Ref.{Bor, MutBor}
 use Rattle.text.specs.Put.{Written}
 use Rattle.text.proofs.put_bytes.Reads as put-bytes
 use Rattle.text.proofs.put_byte.Reads as put_byte
@@ -15,14 +15,14 @@ use Rattle.text.proofs.number.put_number.Reads as put-number
 use Rattle.text.proofs.number.put_decimal.Reads as put-decimal
 
 -- one text, and one place behind it
-abbrev pub Same : (after other : Bor (List ℕ)) (r s : ℕ) → Type 0
+abbrev pub Same : (after other : MutBor (List ℕ)) (r s : ℕ) → Type 0
 Same after other r s = (r ≡ s) × (after.now ≡ other.now)
 
-written-alone : (out : List ℕ) (at : ℕ) (bytes : List ℕ) (after other : Bor (List ℕ)) (r s : ℕ)
+written-alone : (out : List ℕ) (at : ℕ) (bytes : List ℕ) (after other : MutBor (List ℕ)) (r s : ℕ)
     → Written out at bytes after.now r → Written out at bytes other.now s → Same after other r s
 written-alone out at bytes after other r s e f = (e.place ∙ sym f.place, e.buffer ∙ sym f.buffer)
 
-module _ (out after other : Bor (List ℕ)) (at r s : ℕ) where
+module _ (out after other : MutBor (List ℕ)) (at r s : ℕ) where
   pub put-bytes-decided : (κs : Lfts 2) (bytes : Bor (List ℕ))
       → put-bytes.Post κs (out, (at, (bytes, tt))) r (after, (at, (bytes, tt)))
       → put-bytes.Post κs (out, (at, (bytes, tt))) s (other, (at, (bytes, tt))) → Same after other r s

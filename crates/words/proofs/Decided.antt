@@ -5,7 +5,7 @@ use mathlib.Core.Path.{◌≡◌, sym, ◌∙◌}
 use mathlib.Core.List.{List}
 use Prim.Native.Nat.{ℕ}
 use contract.Lifetimes.{Lfts}
-use denote.Ref.{Bor}
+use denote.Ref.{Bor, MutBor}
 use Rattle.plain.specs.declared.structs.OzpText.{OzpText}
 use Rattle.words.specs.Texts.{Told}
 use Rattle.words.specs.Words.{bytes_of, words_of}
@@ -29,7 +29,7 @@ pub refused-decided : (number place : ℕ) (r s : OzpText)
 refused-decided number place r s e f = e ∙ sym f
 
 -- a text and the room, by the contract of `put_text`
-pub put-text-decided : (κs : Lfts 2) (room₁ text₁ room₂ text₂ room₁' room₂' : Bor (List ℕ)) (r s : OzpText)
+pub put-text-decided : (κs : Lfts 2) (room₁ : MutBor (List ℕ)) (text₁ : Bor (List ℕ)) (room₂ : MutBor (List ℕ)) (text₂ : Bor (List ℕ)) (room₁' room₂' : MutBor (List ℕ)) (r s : OzpText)
     → room₁.now ≡ room₂.now → text₁.now ≡ text₂.now
     → put-text.Post κs (room₁, (text₁, tt)) r (room₁', (text₁, tt))
     → put-text.Post κs (room₂, (text₂, tt)) s (room₂', (text₂, tt))
@@ -37,7 +37,7 @@ pub put-text-decided : (κs : Lfts 2) (room₁ text₁ room₂ text₂ room₁' 
 put-text-decided κs room₁ text₁ room₂ text₂ room₁' room₂' r s e f x y = told_same text₁.now room₁.now _ _ _ _ x (rw (e, f) y)
 
 -- the words of a number and the room, by the contract of `words`
-pub words-decided : (κs : Lfts 1) (number : ℕ) (room₁ room₂ room₁' room₂' : Bor (List ℕ)) (r s : OzpText)
+pub words-decided : (κs : Lfts 1) (number : ℕ) (room₁ room₂ room₁' room₂' : MutBor (List ℕ)) (r s : OzpText)
     → room₁.now ≡ room₂.now
     → words.Post κs (number, (room₁, tt)) r (number, (room₁', tt))
     → words.Post κs (number, (room₂, tt)) s (number, (room₂', tt))

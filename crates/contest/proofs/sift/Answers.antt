@@ -22,4 +22,4 @@ overflow_sub-result c =
 pub returns : goal.returns
 returns c =
     let parted = c.threshold-parting.ensures in
-    told-key _ _ _ _ _ _ entry.requires.standing c.hold.ensures _ parted.won parted.parts
+    told-key _ _ _ _ _ _ c.requires.standing c.hold.ensures _ parted.won parted.parts

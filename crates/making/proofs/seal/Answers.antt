@@ -9,5 +9,5 @@ use Rattle.making.proofs.seal.Goals as goal
 pub returns : goal.returns
 returns c =
     let sums = c.check_sums-sums.ensures in
-    put-sums s.args.b.now s.args.at _ s.requires (part-from s.args.b.now s.args.at 512) sums.0 sums.1
+    put-sums c.args.b.now c.args.at _ c.requires (part-from c.args.b.now c.args.at 512) sums.sum_value sums.total_value
     c.put_u16.ensures c.put_u16-2.ensures

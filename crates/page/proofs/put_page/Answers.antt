@@ -5,12 +5,6 @@ use Rattle.page.specs.Page.{page_parts}
 use borrow.Author.Rules.{rules}
 use Rattle.page.proofs.put_page.Goals as goal
 
-pub put_head-behind-requires : goal.put_head-behind-requires
-put_head-behind-requires c = tt
-
-pub put_rows-requires : goal.put_rows-requires
-put_rows-requires c = tt
-
 pub returns : goal.returns
 unfolding page_parts
 returns c = shows_then _ _ _ _ _ _ _ _ c.put_head-behind.ensures c.put_rows.ensures

@@ -23,7 +23,7 @@ before c =
 abbrev after : Joined-told-held → List ℕ → List ℕ → Columns
 after c resources steps =
     let l = c.put_rows-told.new.1.1.1.1 in
-    columns_of l.0 l.1.0 l.1.1.0 resources l.1.1.1.1.0 steps
+    columns_of c.put_rows-told.new.prices c.put_rows-told.new.quantities c.put_rows-told.new.leasts resources c.put_rows-told.new.stamps steps
 
 pub values_tested-found-requires : goal.values_tested-found-requires
 values_tested-found-requires c = (c.requires.0, put-room _ _ c.put_rows-told.ensures c.requires.1)

@@ -39,7 +39,7 @@ parts-requires c =
     }
 
 abbrev parted : After-parts → List ℕ
-parted c = c.parts.new.1.1.1.1.0
+parted c = c.parts.new.out
 
 holds : (c : After-parts) → let a = c.args in
     HoldsParts a.level a.prices.now a.quantities.now a.n (parted c)

@@ -10,12 +10,6 @@ use Rattle.text.proofs.Puts.{written-past, written_none, written-clamped}
 use Rattle.text.proofs.Fills.{length-right, written-more, written-right}
 use Rattle.text.proofs.put_right.Goals as goal
 
-pub excess_size-gap-requires : goal.excess_size-gap-requires
-excess_size-gap-requires c = tt
-
-pub lesser_size-place-requires : goal.lesser_size-place-requires
-lesser_size-place-requires c = tt
-
 pub returns-then-gap-bytes : goal.returns-then-gap-bytes
 returns-then-gap-bytes c =
     let a = c.args in
@@ -25,16 +19,10 @@ returns-then-gap-bytes c =
 pub loop-i-init : goal.loop-i-init
 loop-i-init c = (search rules, search rules, written_none _ _ (omega (arith, c.lesser_size-place.ensures)))
 
-pub put_byte-place-requires : goal.put_byte-place-requires
-put_byte-place-requires c = tt
-
 pub loop-i-preserved : goal.loop-i-preserved
 loop-i-preserved c =
     let l = c.loop-i in
     (search rules, search rules, written-more _ _ _ l.i (omega arith) l.invariant.2 c.put_byte-place.ensures)
-
-pub put_bytes-requires : goal.put_bytes-requires
-put_bytes-requires c = tt
 
 pub returns : goal.returns
 returns c =

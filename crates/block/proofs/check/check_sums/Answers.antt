@@ -11,8 +11,8 @@ returns c =
     let s = c.args.s.now in
     let sums = c.over_columns.ensures in
     let filling = c.column_sums-totals.ensures.sums_after in record {
-      sum_value = sum-together s _ (zeros 16) filling (le_refl 16) sums.0 sums.1 c.over_first-first.ensures.sum_value;
-      total_value = total-together s _ (zeros 16) filling (le_refl 16) sums.0 sums.1 c.over_first-first.ensures.total_value
+      sum_value = sum-together s _ (zeros 16) filling (le_refl 16) sums.sum_value sums.total_value c.over_first-first.ensures.sum_value;
+      total_value = total-together s _ (zeros 16) filling (le_refl 16) sums.sum_value sums.total_value c.over_first-first.ensures.total_value
           (doubled-four _ c.column_sums-totals.ensures.value
           c.doubled.ensures
           c.doubled-2.ensures

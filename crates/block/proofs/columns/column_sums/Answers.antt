@@ -28,10 +28,10 @@ loop-column-preserved c =
     let s = c.args.s.now in
     let i = c.loop-column.column in (
       omega arith,
-      kept-added _ (column_total s i) c.loop-column.invariant.1 rows.ensures.1 c.added-totals.ensures
+      kept-added _ (column_total s i) c.loop-column.invariant.1 rows.ensures.total_value c.added-totals.ensures
           ∙ kept (sym (rw (add-one, sum_to-suc))),
       filled_more _ _ _ c.loop-column.invariant.2
-          (added-kept _ _ rows.ensures.0 c.added.ensures
+          (added-kept _ _ rows.ensures.sum_value c.added.ensures
           ∙ ap (λ (x : ℕ). (running_sum (in_column s i) 30 30 + x) % 65536) c.wide16.ensures.0),
     )
 

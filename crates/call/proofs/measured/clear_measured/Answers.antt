@@ -28,9 +28,6 @@ passed c =
 pub clear_opened-requires : goal.clear_opened-requires
 clear_opened-requires c = passed (goal.at.clear_opened-requires c).In_default
 
-pub by_fields-requires : goal.by_fields-requires
-by_fields-requires c = tt
-
 pub shape_of-cleared : goal.shape_of-cleared
 shape_of-cleared c = c.clear_opened.auto.1.1.1.1.0
 

@@ -4,9 +4,6 @@ use borrow.Author.Rules.{rules}
 use Rattle.call.proofs.Empty.{outcome-empty}
 use Rattle.call.proofs.measured.clear_opened.Goals as goal
 
-pub clear_none-requires : goal.clear_none-requires
-clear_none-requires c = tt
-
 pub returns-then-rows-eq0 : goal.returns-then-rows-eq0
 returns-then-rows-eq0 c = outcome-empty _ _ _ _ _ _ _ c.requires (search rules) c.clear_none.ensures
 

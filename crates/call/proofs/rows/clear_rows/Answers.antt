@@ -14,14 +14,8 @@ use Rattle.call.proofs.Calls.{opened_inside, opened-stands, fault-rows, Callable
 use Rattle.call.proofs.rows.clear_rows.Goals as goal
 use Rattle.call.proofs.rows.clear_rows.Goals.{After-and_then, In_default}
 
-pub buffer_fault-short-requires : goal.buffer_fault-short-requires
-buffer_fault-short-requires c = tt
-
 pub read_rows-found-requires : goal.read_rows-found-requires
 read_rows-found-requires c = (opened_inside _ _ _ _ c.requires.opened, blank-room _ _ c.requires.blank)
-
-pub and_then-requires : goal.and_then-requires
-and_then-requires c = tt
 
 -- the rows and the buffers decide
 fault : (c : After-and_then) → let a = c.args in
@@ -65,7 +59,7 @@ callable c = passed-callable _ _ _ (sym (passed c))
 abbrev columns : In_default → Columns
 columns c =
     let l = c.read_rows-found.new.1.1.1.1 in
-    columns_of l.0 l.1.0 l.1.1.0 l.1.1.1.0 l.1.1.1.1.0 l.1.1.1.1.1.0
+    columns_of c.read_rows-found.new.prices c.read_rows-found.new.quantities c.read_rows-found.new.leasts c.read_rows-found.new.resources c.read_rows-found.new.stamps c.read_rows-found.new.steps
 
 -- what the book says stands in them
 stands : (c : In_default) → let a = c.args in

@@ -7,50 +7,20 @@ use Rattle.faultlines.proofs.parameter.field_number.Goals as goal
 pub overflow_cast-p : goal.overflow_cast-p
 overflow_cast-p c = Fits-32_64 c.struct_known-1.given.0
 
-pub number_held-requires : goal.number_held-requires
-number_held-requires c = tt
-
 pub overflow_cast-number_held : goal.overflow_cast-number_held
 overflow_cast-number_held c = Fits-32_64 (record { fits = c.number_held.type-inv })
-
-pub number_held-requires-2 : goal.number_held-requires-2
-number_held-requires-2 c = tt
 
 pub overflow_cast-number_held-2 : goal.overflow_cast-number_held-2
 overflow_cast-number_held-2 c = Fits-32_64 (record { fits = c.number_held-2.type-inv })
 
-pub number_held-requires-3 : goal.number_held-requires-3
-number_held-requires-3 c = tt
-
 pub overflow_cast-number_held-3 : goal.overflow_cast-number_held-3
 overflow_cast-number_held-3 c = Fits-32_64 (record { fits = c.number_held-3.type-inv })
-
-pub number_held-requires-4 : goal.number_held-requires-4
-number_held-requires-4 c = tt
 
 pub overflow_cast-number_held-4 : goal.overflow_cast-number_held-4
 overflow_cast-number_held-4 c = Fits-32_64 (record { fits = c.number_held-4.type-inv })
 
-pub number_held-requires-5 : goal.number_held-requires-5
-number_held-requires-5 c = tt
-
 pub overflow_cast-number_held-5 : goal.overflow_cast-number_held-5
 overflow_cast-number_held-5 c = Fits-32_64 (record { fits = c.number_held-5.type-inv })
-
-pub either-requires : goal.either-requires
-either-requires c = tt
-
-pub either-requires-2 : goal.either-requires-2
-either-requires-2 c = tt
-
-pub either-requires-3 : goal.either-requires-3
-either-requires-3 c = tt
-
-pub either-requires-4 : goal.either-requires-4
-either-requires-4 c = tt
-
-pub either-requires-5 : goal.either-requires-5
-either-requires-5 c = tt
 
 pub returns : goal.returns
 unfolding field_number

@@ -5,23 +5,8 @@ use Rattle.faultlines.specs.Refused.{parameter_numbers}
 use Rattle.wording.proofs.Showing.{showing}
 use Rattle.faultlines.proofs.parameter.put_parameter.Goals as goal
 
-pub overflow_cast-ranged : goal.overflow_cast-ranged
-overflow_cast-ranged c = tt
-
-pub field_number-value-requires : goal.field_number-value-requires
-field_number-value-requires c = tt
-
 pub slice_bounds-put_form-end-2 : goal.slice_bounds-put_form-end-2
 slice_bounds-put_form-end-2 c = refl
-
-pub either-requires : goal.either-requires
-either-requires c = tt
-
-pub offset_most-requires : goal.offset_most-requires
-offset_most-requires c = tt
-
-pub put_form-requires : goal.put_form-requires
-put_form-requires c = tt
 
 pub shape_of-room : goal.shape_of-room
 shape_of-room c = c.put_form.auto.0

@@ -6,23 +6,8 @@ use mir.Facts.{Fits-32_64}
 use Rattle.wording.specs.Words.{as_one}
 use Rattle.faultlines.proofs.wrong.beside.Goals as goal
 
-pub given-requires : goal.given-requires
-given-requires c = tt
-
-pub overflow_cast-result : goal.overflow_cast-result
-overflow_cast-result c = tt
-
-pub number_held-requires : goal.number_held-requires
-number_held-requires c = tt
-
 pub overflow_cast-result-2 : goal.overflow_cast-result-2
 overflow_cast-result-2 c = Fits-32_64 (record { fits = c.number_held.type-inv })
-
-pub given_within-requires : goal.given_within-requires
-given_within-requires c = tt
-
-pub overflow_cast-result-3 : goal.overflow_cast-result-3
-overflow_cast-result-3 c = tt
 
 pub returns : goal.returns
 returns c =

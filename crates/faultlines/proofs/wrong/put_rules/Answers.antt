@@ -8,9 +8,6 @@ use Rattle.faultlines.proofs.wrong.put_rules.Goals as goal
 pub slice_bounds-put_form-end-2 : goal.slice_bounds-put_form-end-2
 slice_bounds-put_form-end-2 c = refl
 
-pub put_form-requires : goal.put_form-requires
-put_form-requires c = tt
-
 pub shape_of-room : goal.shape_of-room
 shape_of-room c = c.put_form.auto.0
 

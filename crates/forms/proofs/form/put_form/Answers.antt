@@ -10,12 +10,6 @@ use Rattle.forms.proofs.form.put_form.Goals as goal
 pub loop-i-init : goal.loop-i-init
 loop-i-init c = let a = c.args in passing-none a.room.now a.at a.form.now a.numbers.now (omega arith)
 
-pub turn_after-turn-requires : goal.turn_after-turn-requires
-turn_after-turn-requires c = tt
-
-pub taken_by-used-requires : goal.taken_by-used-requires
-taken_by-used-requires c = tt
-
 pub loop-i-preserved : goal.loop-i-preserved
 loop-i-preserved c =
     let l = c.loop-i in

@@ -4,9 +4,6 @@ use native.Mathlib.Omega.{arith}
 use Rattle.forms.specs.Form.{taken}
 use Rattle.forms.proofs.form.taken_by.Goals as goal
 
-pub is_number-requires : goal.is_number-requires
-is_number-requires c = tt
-
 pub returns-then-is_number-mark : goal.returns-then-is_number-mark
 unfolding taken
 returns-then-is_number-mark c = (rw (← c.is_number.ensures, c.if-is_number-mark.true), omega arith)

@@ -10,9 +10,6 @@ pub returns-then-mark-eq95 : goal.returns-then-mark-eq95
 unfolding width_after
 returns-then-mark-eq95 c = (rw (eq-eqb _ _ c.if-mark-eq95.true), omega arith)
 
-pub is_number-requires : goal.is_number-requires
-is_number-requires c = tt
-
 pub returns-then-is_number : goal.returns-then-is_number
 unfolding width_after
 returns-then-is_number c =

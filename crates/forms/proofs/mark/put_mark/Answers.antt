@@ -14,15 +14,6 @@ returns-then-shown-mark c =
     let a = c.args in
     rw (byte-hidden a.shown a.width a.mark _ c.if-shown-mark.true) (put-none _ _ (omega arith))
 
-pub is_number-requires : goal.is_number-requires
-is_number-requires c = tt
-
-pub put_next-requires : goal.put_next-requires
-put_next-requires c = tt
-
-pub put_byte-requires : goal.put_byte-requires
-put_byte-requires c = tt
-
 pub returns-then-is_number : goal.returns-then-is_number
 unfolding is_silent
 returns-then-is_number c =

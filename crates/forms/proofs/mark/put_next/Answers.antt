@@ -10,31 +10,22 @@ use Rattle.forms.proofs.Fillings.{next-none, next-some}
 use Rattle.forms.proofs.mark.put_next.Goals as goal
 use Rattle.forms.proofs.mark.put_next.Goals.{After-put_text-end}
 
-pub put_right-requires : goal.put_right-requires
-put_right-requires c = tt
-
 pub returns-then-numbers-used : goal.returns-then-numbers-used
 returns-then-numbers-used c =
     let a = c.args in
     rw (next-none a.mark a.numbers.now a.used c.if-numbers-used.true)
     c.put_right.ensures
 
-pub put_text-end-requires : goal.put_text-end-requires
-put_text-end-requires c = tt
-
 -- the local room, once the text was put there
 made : (c : After-put_text-end) →
     let a = c.args in
-    Made (mark_text a.mark (get_or a.numbers.now a.used 0)) c.put_text-end.new.0 c.put_text-end.result
+    Made (mark_text a.mark (get_or a.numbers.now a.used 0)) c.put_text-end.new.room c.put_text-end.result
 made c =
     let a = c.args in
     mark_made (replicate 64 0) _ _ refl (omega (arith, c.shared_slice_known-2-1.given a.used)) c.put_text-end.ensures
 
 pub slice_bounds-text-end : goal.slice_bounds-text-end
 slice_bounds-text-end c = (made (goal.at.slice_bounds-text-end c).After-put_text-end).within
-
-pub put_right-requires-2 : goal.put_right-requires-2
-put_right-requires-2 c = tt
 
 pub returns : goal.returns
 returns c =

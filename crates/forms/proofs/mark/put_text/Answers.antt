@@ -7,17 +7,11 @@ use borrow.Author.Rules.{rules}
 use Rattle.forms.proofs.Numbers.{text-separated, plain-front, plain_end}
 use Rattle.forms.proofs.mark.put_text.Goals as goal
 
-pub places_of-places-requires : goal.places_of-places-requires
-places_of-places-requires c = tt
-
 pub spell-end-requires : goal.spell-end-requires
 spell-end-requires c = c.places_of-places.ensures.1
 
 pub wholes_of-requires : goal.wholes_of-requires
 wholes_of-requires c = c.places_of-places.ensures.1
-
-pub put_separated-requires : goal.put_separated-requires
-put_separated-requires c = tt
 
 pub returns : goal.returns
 returns c =

@@ -13,9 +13,6 @@ pub returns-then-places-eq0 : goal.returns-then-places-eq0
 unfolding wholes
 returns-then-places-eq0 c = rw (ne_eqb _ _ c.if-mark-eq35.false, eq-eqb _ _ c.if-places-eq0.true)
 
-pub excess_size-requires : goal.excess_size-requires
-excess_size-requires c = tt
-
 pub returns : goal.returns
 unfolding wholes
 returns c = rw (ne_eqb _ _ c.if-mark-eq35.false, ne_eqb _ _ c.if-places-eq0.false) c.excess_size.ensures

@@ -7,12 +7,6 @@ use Rattle.forms.specs.Number.{comma}
 use Rattle.forms.proofs.Puts.{put-put}
 use Rattle.forms.proofs.number.put_digit.Goals as goal
 
-pub put_byte-place-requires : goal.put_byte-place-requires
-put_byte-place-requires c = tt
-
-pub put_byte-requires : goal.put_byte-requires
-put_byte-requires c = tt
-
 pub returns-then-left : goal.returns-then-left
 unfolding comma
 returns-then-left c =

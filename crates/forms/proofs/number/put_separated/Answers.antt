@@ -19,12 +19,6 @@ loop-i-init c =
     let a = c.args in
     (search rules, search rules, rw sub-zero (left-all a.room.now a.at (separated a.whole a.letters.now) (omega arith)))
 
-pub excess_size-requires : goal.excess_size-requires
-excess_size-requires c = tt
-
-pub put_digit-place-requires : goal.put_digit-place-requires
-put_digit-place-requires c = tt
-
 pub loop-i-preserved : goal.loop-i-preserved
 loop-i-preserved c =
     let a = c.args in

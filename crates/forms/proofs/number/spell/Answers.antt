@@ -8,12 +8,6 @@ use borrow.Author.Tests.{eq-eqb, ne_eqb}
 use Rattle.forms.specs.inner.Plain.{plain_text}
 use Rattle.forms.proofs.number.spell.Goals as goal
 
-pub put_number-requires : goal.put_number-requires
-put_number-requires c = tt
-
-pub put_decimal-requires : goal.put_decimal-requires
-put_decimal-requires c = tt
-
 pub returns-then-places-eq0 : goal.returns-then-places-eq0
 unfolding plain_text
 returns-then-places-eq0 c = rw (eq-eqb _ _ c.if-places-eq0.true) c.put_number.ensures

@@ -14,17 +14,11 @@ use Rattle.forms.proofs.put.put_right.Goals as goal
 length-padded : (gap : ℕ) (bytes : List ℕ) → length (replicate gap 32 ++ bytes) ≡ gap + length bytes
 length-padded gap bytes = simp (length-append, length-replicate)
 
-pub excess_size-gap-requires : goal.excess_size-gap-requires
-excess_size-gap-requires c = tt
-
 pub loop-i-init : goal.loop-i-init
 loop-i-init c =
     let a = c.args in
     let text : List ℕ = replicate c.excess_size-gap.result 32 ++ a.bytes.now in
     (search rules, c.excess_size-gap.ensures, search rules, left-all a.room.now a.at text (omega arith))
-
-pub put_byte-place-requires : goal.put_byte-place-requires
-put_byte-place-requires c = tt
 
 pub loop-i-preserved : goal.loop-i-preserved
 loop-i-preserved c =

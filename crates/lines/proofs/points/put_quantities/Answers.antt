@@ -7,18 +7,6 @@ use mir.Facts.{Fits-32_64}
 use borrow.Author.Rules.{rules}
 use Rattle.lines.proofs.points.put_quantities.Goals as goal
 
-pub by_margin-early-requires : goal.by_margin-early-requires
-by_margin-early-requires c = tt
-
-pub weights_of-weights-requires : goal.weights_of-weights-requires
-weights_of-weights-requires c = tt
-
-pub number_held-requires : goal.number_held-requires
-number_held-requires c = tt
-
-pub whole_of-whole-requires : goal.whole_of-whole-requires
-whole_of-whole-requires c = tt
-
 pub slice_bounds-put_form-end-2 : goal.slice_bounds-put_form-end-2
 slice_bounds-put_form-end-2 c = refl
 
@@ -39,12 +27,6 @@ overflow_cast-weights-3 c = Fits-32_64 c.struct_known-5-1.given.1.1.1.1.0
 
 pub overflow_cast-c-3 : goal.overflow_cast-c-3
 overflow_cast-c-3 c = Fits-32_64 c.struct_known-6-1.given.1.1.1.1.0
-
-pub overflow_cast-early : goal.overflow_cast-early
-overflow_cast-early c = tt
-
-pub put_form-requires : goal.put_form-requires
-put_form-requires c = tt
 
 pub shape_of-room : goal.shape_of-room
 shape_of-room c = c.put_form.auto.0

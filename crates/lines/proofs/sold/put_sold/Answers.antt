@@ -6,35 +6,11 @@ use Rattle.wording.proofs.Showing.{showing}
 use mir.Facts.{Fits-32_64}
 use Rattle.lines.proofs.sold.put_sold.Goals as goal
 
-pub priced-price-requires : goal.priced-price-requires
-priced-price-requires c = tt
-
 pub overflow_cast-total : goal.overflow_cast-total
 overflow_cast-total c = Fits-32_64 c.struct_known-1.given.0
 
-pub either-requires : goal.either-requires
-either-requires c = tt
-
-pub either-paid-requires : goal.either-paid-requires
-either-paid-requires c = tt
-
 pub slice_bounds-put_form-end-2 : goal.slice_bounds-put_form-end-2
 slice_bounds-put_form-end-2 c = refl
-
-pub first_true-requires : goal.first_true-requires
-first_true-requires c = tt
-
-pub either-requires-2 : goal.either-requires-2
-either-requires-2 c = tt
-
-pub either-requires-3 : goal.either-requires-3
-either-requires-3 c = tt
-
-pub either-requires-4 : goal.either-requires-4
-either-requires-4 c = tt
-
-pub put_form-requires : goal.put_form-requires
-put_form-requires c = tt
 
 pub shape_of-room : goal.shape_of-room
 shape_of-room c = c.put_form.auto.0

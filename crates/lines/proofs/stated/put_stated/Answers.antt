@@ -6,20 +6,11 @@ use Rattle.wording.proofs.Showing.{showing}
 use Rattle.lines.proofs.Stating.{stated-are}
 use Rattle.lines.proofs.stated.put_stated.Goals as goal
 
-pub told-n-requires : goal.told-n-requires
-told-n-requires c = tt
-
 pub slice_bounds-put_form-end-2 : goal.slice_bounds-put_form-end-2
 slice_bounds-put_form-end-2 c = refl
 
-pub overflow_cast-edition : goal.overflow_cast-edition
-overflow_cast-edition c = tt
-
 pub overflow_cast-p : goal.overflow_cast-p
 overflow_cast-p c = Fits-32_64 c.struct_known-1.given.0
-
-pub put_form-requires : goal.put_form-requires
-put_form-requires c = tt
 
 pub shape_of-room : goal.shape_of-room
 shape_of-room c = c.put_form.auto.0

@@ -6,32 +6,14 @@ use Rattle.wording.proofs.Showing.{showing}
 use mir.Facts.{Fits-32_64}
 use Rattle.lines.proofs.total.put_price.Goals as goal
 
-pub priced-told-requires : goal.priced-told-requires
-priced-told-requires c = tt
-
-pub setter-sets-requires : goal.setter-sets-requires
-setter-sets-requires c = tt
-
 pub slice_bounds-put_form-end-2 : goal.slice_bounds-put_form-end-2
 slice_bounds-put_form-end-2 c = refl
-
-pub overflow_cast-s : goal.overflow_cast-s
-overflow_cast-s c = tt
-
-pub either-requires : goal.either-requires
-either-requires c = tt
 
 pub overflow_cast-s-2 : goal.overflow_cast-s-2
 overflow_cast-s-2 c = Fits-32_64 c.struct_known-4-1.given.1.0.1.0
 
 pub overflow_cast-s-3 : goal.overflow_cast-s-3
 overflow_cast-s-3 c = Fits-32_64 c.struct_known-5-1.given.1.0.1.1.1.1.0
-
-pub either-requires-2 : goal.either-requires-2
-either-requires-2 c = tt
-
-pub put_form-requires : goal.put_form-requires
-put_form-requires c = tt
 
 pub shape_of-room : goal.shape_of-room
 shape_of-room c = c.put_form.auto.0

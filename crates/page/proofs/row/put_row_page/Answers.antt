@@ -5,21 +5,9 @@ use Rattle.page.specs.Page.{row_page_parts}
 use borrow.Author.Rules.{rules}
 use Rattle.page.proofs.row.put_row_page.Goals as goal
 
-pub head_of-requires : goal.head_of-requires
-head_of-requires c = tt
-
 pub returns-in_default : goal.returns-in_default
 unfolding row_page_parts
 returns-in_default c = rw (← c.head_of.ensures, c.in_default.is) (shows-none _ _)
-
-pub workings-requires : goal.workings-requires
-workings-requires c = tt
-
-pub put_row_of-requires : goal.put_row_of-requires
-put_row_of-requires c = tt
-
-pub put_stated_row-requires : goal.put_stated_row-requires
-put_stated_row-requires c = tt
 
 pub returns-in-Worked : goal.returns-in-Worked
 unfolding row_page_parts

@@ -12,7 +12,7 @@ pub returns : goal.returns
 returns c =
     let made = c.put_head-end in
     record {
-      after = made.new.0;
+      after = made.new.room;
       end = made.result;
       shows = made.ensures;
       told = rw (← c.lesser_size-size.ensures) c.put_text.ensures;

@@ -9,7 +9,7 @@ use Rattle.report.proofs.lines.put_word.Goals.{After-put_bytes-behind}
 
 -- the word fits
 word-fitted : (c : After-put_bytes-behind) → let a = c.args in
-    Fitted a.out.now a.at a.word.now c.put_bytes-behind.new.0 c.put_bytes-behind.result
+    Fitted a.out.now a.at a.word.now c.put_bytes-behind.new.out c.put_bytes-behind.result
 word-fitted c = fitted (omega arith) c.put_bytes-behind.ensures
 
 pub put_ended-requires : goal.put_ended-requires

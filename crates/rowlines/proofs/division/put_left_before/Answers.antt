@@ -8,12 +8,6 @@ use Rattle.rowlines.proofs.division.put_left_before.Goals as goal
 pub slice_bounds-put_form-end-2 : goal.slice_bounds-put_form-end-2
 slice_bounds-put_form-end-2 c = refl
 
-pub first_true-requires : goal.first_true-requires
-first_true-requires c = tt
-
-pub put_form-requires : goal.put_form-requires
-put_form-requires c = tt
-
 pub shape_of-room : goal.shape_of-room
 shape_of-room c = c.put_form.auto.0
 

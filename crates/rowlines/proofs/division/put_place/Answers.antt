@@ -10,26 +10,11 @@ use Rattle.rowlines.proofs.division.put_place.Goals as goal
 pub slice_bounds-put_form-end-2 : goal.slice_bounds-put_form-end-2
 slice_bounds-put_form-end-2 c = refl
 
-pub overflow_cast-k : goal.overflow_cast-k
-overflow_cast-k c = tt
-
-pub lesser_size-requires : goal.lesser_size-requires
-lesser_size-requires c = tt
-
 pub overflow_cast-c : goal.overflow_cast-c
 overflow_cast-c c = Fits-32_64 c.struct_known-1.given.1.1.0
 
-pub overflow_cast-edition : goal.overflow_cast-edition
-overflow_cast-edition c = tt
-
 pub overflow_cast-c-2 : goal.overflow_cast-c-2
 overflow_cast-c-2 c = Fits-32_64 c.struct_known-2-1.given.1.1.1.0
-
-pub overflow_cast-first-2 : goal.overflow_cast-first-2
-overflow_cast-first-2 c = tt
-
-pub put_form-requires : goal.put_form-requires
-put_form-requires c = tt
 
 pub shape_of-room : goal.shape_of-room
 shape_of-room c = c.put_form.auto.0

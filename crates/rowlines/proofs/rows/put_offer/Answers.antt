@@ -7,14 +7,8 @@ use mir.Facts.{Fits-32_64}
 use borrow.Author.Rules.{rules}
 use Rattle.rowlines.proofs.rows.put_offer.Goals as goal
 
-pub valued-price-requires : goal.valued-price-requires
-valued-price-requires c = tt
-
 pub slice_bounds-put_form-end-2 : goal.slice_bounds-put_form-end-2
 slice_bounds-put_form-end-2 c = refl
-
-pub overflow_cast-edition : goal.overflow_cast-edition
-overflow_cast-edition c = tt
 
 pub overflow_cast-o : goal.overflow_cast-o
 overflow_cast-o c = Fits-32_64 c.struct_known-1.given.1.1.1.1.1.1.0
@@ -28,20 +22,8 @@ overflow_cast-o-3 c = Fits-32_64 c.struct_known-3-1.given.1.1.1.0
 pub overflow_cast-o-4 : goal.overflow_cast-o-4
 overflow_cast-o-4 c = Fits-32_64 c.struct_known-4-1.given.1.0
 
-pub given-requires : goal.given-requires
-given-requires c = tt
-
-pub overflow_cast-given : goal.overflow_cast-given
-overflow_cast-given c = tt
-
-pub number_held-requires : goal.number_held-requires
-number_held-requires c = tt
-
 pub overflow_cast-number_held : goal.overflow_cast-number_held
 overflow_cast-number_held c = Fits-32_64 (record { fits = c.number_held.type-inv })
-
-pub put_form-requires : goal.put_form-requires
-put_form-requires c = tt
 
 pub shape_of-room : goal.shape_of-room
 shape_of-room c = c.put_form.auto.0

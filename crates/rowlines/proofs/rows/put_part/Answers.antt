@@ -15,17 +15,11 @@ overflow_cast-s c = Fits-32_64 c.struct_known-1.given.0
 pub overflow_cast-s-2 : goal.overflow_cast-s-2
 overflow_cast-s-2 c = Fits-32_64 c.struct_known-2-1.given.1.0
 
-pub first_true-requires : goal.first_true-requires
-first_true-requires c = tt
-
 pub overflow_cast-s-3 : goal.overflow_cast-s-3
 overflow_cast-s-3 c = Fits-32_64 c.struct_known-5-1.given.0
 
 pub overflow_cast-s-4 : goal.overflow_cast-s-4
 overflow_cast-s-4 c = Fits-32_64 c.struct_known-6-1.given.1.0
-
-pub put_form-requires : goal.put_form-requires
-put_form-requires c = tt
 
 pub shape_of-room : goal.shape_of-room
 shape_of-room c = c.put_form.auto.0

@@ -10,23 +10,8 @@ use Rattle.rowlines.proofs.rows.put_settled.Goals as goal
 pub slice_bounds-put_form-end-2 : goal.slice_bounds-put_form-end-2
 slice_bounds-put_form-end-2 c = refl
 
-pub overflow_cast-cleared-2 : goal.overflow_cast-cleared-2
-overflow_cast-cleared-2 c = tt
-
-pub reason-requires : goal.reason-requires
-reason-requires c = tt
-
-pub cents_of-requires : goal.cents_of-requires
-cents_of-requires c = tt
-
-pub excess-requires : goal.excess-requires
-excess-requires c = tt
-
 pub overflow_cast-excess : goal.overflow_cast-excess
 overflow_cast-excess c = Fits-32_64 (record { fits = c.excess.type-inv })
-
-pub put_form-requires : goal.put_form-requires
-put_form-requires c = tt
 
 pub shape_of-room : goal.shape_of-room
 shape_of-room c = c.put_form.auto.0

@@ -18,20 +18,8 @@ overflow_cast-rung-2 c = Fits-32_64 c.struct_known-2-1.given.1.0
 pub overflow_cast-rung-3 : goal.overflow_cast-rung-3
 overflow_cast-rung-3 c = Fits-32_64 c.struct_known-3-1.given.1.1.0
 
-pub overflow_cast-rung-4 : goal.overflow_cast-rung-4
-overflow_cast-rung-4 c = tt
-
-pub either-requires : goal.either-requires
-either-requires c = tt
-
-pub overflow_cast-k : goal.overflow_cast-k
-overflow_cast-k c = tt
-
 pub overflow_cast-rung-5 : goal.overflow_cast-rung-5
 overflow_cast-rung-5 c = Fits-32_64 c.struct_known-7-1.given.1.1.1.0
-
-pub put_form-requires : goal.put_form-requires
-put_form-requires c = tt
 
 pub shape_of-room : goal.shape_of-room
 shape_of-room c = c.put_form.auto.0

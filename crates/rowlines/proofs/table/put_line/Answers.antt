@@ -28,23 +28,8 @@ overflow_mul-taken c = record { fits = product-below 32 c.ranges.cleared.fits c.
 pub slice_bounds-put_form-end-2 : goal.slice_bounds-put_form-end-2
 slice_bounds-put_form-end-2 c = refl
 
-pub overflow_cast-step-2 : goal.overflow_cast-step-2
-overflow_cast-step-2 c = tt
-
-pub overflow_cast-resource-2 : goal.overflow_cast-resource-2
-overflow_cast-resource-2 c = tt
-
-pub number_held-requires : goal.number_held-requires
-number_held-requires c = tt
-
 pub overflow_cast-number_held : goal.overflow_cast-number_held
 overflow_cast-number_held c = Fits-32_64 (record { fits = c.number_held.type-inv })
-
-pub line_word-requires : goal.line_word-requires
-line_word-requires c = tt
-
-pub put_form-requires : goal.put_form-requires
-put_form-requires c = tt
 
 pub shape_of-room : goal.shape_of-room
 shape_of-room c = c.put_form.auto.0

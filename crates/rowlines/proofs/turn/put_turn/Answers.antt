@@ -4,14 +4,8 @@ use mathlib.Core.Path.{refl}
 use Rattle.wording.proofs.Showing.{showing}
 use Rattle.rowlines.proofs.turn.put_turn.Goals as goal
 
-pub turn_numbers-n-requires : goal.turn_numbers-n-requires
-turn_numbers-n-requires c = tt
-
 pub slice_bounds-put_form-end-2 : goal.slice_bounds-put_form-end-2
 slice_bounds-put_form-end-2 c = refl
-
-pub put_form-requires : goal.put_form-requires
-put_form-requires c = tt
 
 pub shape_of-room : goal.shape_of-room
 shape_of-room c = c.put_form.auto.0

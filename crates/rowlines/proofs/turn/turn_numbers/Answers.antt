@@ -5,12 +5,6 @@ use borrow.Author.Rules.{rules}
 use Rattle.rowlines.specs.Turn.{turn_numbers}
 use Rattle.rowlines.proofs.turn.turn_numbers.Goals as goal
 
-pub across-other-requires : goal.across-other-requires
-across-other-requires c = tt
-
-pub first_true-requires : goal.first_true-requires
-first_true-requires c = tt
-
 pub overflow_cast-result : goal.overflow_cast-result
 overflow_cast-result c = Fits-32_64 c.struct_known-4-1.given.0
 
@@ -19,9 +13,6 @@ overflow_cast-result-2 c = Fits-32_64 c.struct_known-5-1.given.1.0
 
 pub overflow_cast-result-3 : goal.overflow_cast-result-3
 overflow_cast-result-3 c = Fits-32_64 c.struct_known-6-1.given.1.1.0
-
-pub first_true-requires-2 : goal.first_true-requires-2
-first_true-requires-2 c = tt
 
 pub returns : goal.returns
 unfolding turn_numbers

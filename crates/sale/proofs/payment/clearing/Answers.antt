@@ -38,7 +38,7 @@ columns c =
     columns_of a.prices.now a.quantities.now a.leasts.now a.resources.now a.stamps.now a.steps.now
 
 abbrev amounts : After-sell-sale → List ℕ
-amounts c = c.sell-sale.new.1.1.1.1.1.1.1.0
+amounts c = c.sell-sale.new.amounts
 
 -- the sale is that of any contents in the columns
 sold : (c : After-sell-sale) (k : Contents) → Stands k c.args.p c.args.n (columns c)
@@ -82,11 +82,11 @@ returns c =
       clearing =
           clearing-is k _ _ (columns (goal.at.returns c).After-sell-sale) s _ _ _ _ _ _ sale.quantity sale.quote
           (c.mills_of-make_whole.ensures
-          ∙ ap (mills (quoted c.sell-sale.result.price)) paid.1.0
+          ∙ ap (mills (quoted c.sell-sale.result.price)) paid.value.0
           ∙ whole-paid k _ _ (columns (goal.at.returns c).After-sell-sale) s _ (amounts (goal.at.returns c).After-sell-sale) long sale.amounts _ sale.quote)
           (ap (λ (m : ℕ). m + c.mills_of-make_whole.result) c.mills_of.ensures)
           c.days_of.ensures.0
           refl;
       cleared-holds = sale.amounts;
-      committed-holds = committed-list k _ _ (columns (goal.at.returns c).After-sell-sale) s _ (amounts (goal.at.returns c).After-sell-sale) long sale.amounts _ _ paid.0;
+      committed-holds = committed-list k _ _ (columns (goal.at.returns c).After-sell-sale) s _ (amounts (goal.at.returns c).After-sell-sale) long sale.amounts _ _ paid.out_after;
     }

@@ -18,13 +18,13 @@ use Rattle.shares.proofs.spare.give.Goals.{After-award, After-line_up, After-sta
 
 -- the lists that the calls leave behind
 abbrev keys : After-line_up → List ℕ
-keys c = c.line_up.new.1.1.1.1.1.0
+keys c = c.line_up.new.keys
 
 abbrev standings : After-line_up → List ℕ
-standings c = c.line_up.new.1.1.1.1.1.1.0
+standings c = c.line_up.new.standings
 
 abbrev tenths : After-award → List ℕ
-tenths c = c.award.new.1.1.1.1.1.0
+tenths c = c.award.new.standings
 
 -- each row has its key
 keyed : (c : After-line_up) (i : ℕ) → i < c.args.n
@@ -55,10 +55,10 @@ award-requires c =
 
 -- the halves that the stamps were parted into
 abbrev highs : After-line_up → List ℕ
-highs c = c.halve.new.1.1.0
+highs c = c.halve.new.highs
 
 abbrev lows : After-line_up → List ℕ
-lows c = c.halve.new.1.1.1.0
+lows c = c.halve.new.lows
 
 halves : (c : After-line_up) (i : ℕ) → i < c.args.n
     → (get_or (highs c) i 0 ≡ high_half c.args.stamps.now i) × (get_or (lows c) i 0 ≡ low_half c.args.stamps.now i)
@@ -77,7 +77,7 @@ pub returns : goal.returns
 returns c =
     let p = c.requires in
     won-cleared _ _ _ _ _ _ _ _ _ p (highs (goal.at.returns c).After-line_up) (lows (goal.at.returns c).After-line_up) (keys (goal.at.returns c).After-line_up) (standings (goal.at.returns c).After-line_up) (tenths (goal.at.returns c).After-award) c.award.ensures
-    c.add.new.1.1.0
+    c.add.new.out
     (halves (goal.at.returns c).After-line_up)
     (keyed (goal.at.returns c).After-line_up)
     (stands (goal.at.returns c).After-line_up)

@@ -10,24 +10,9 @@ use Rattle.text.proofs.Numbers.{decimal-parts}
 use Rattle.text.proofs.number.put_decimal.Goals as goal
 use Rattle.text.proofs.number.put_decimal.Goals.{After-put_filled-end}
 
-pub lesser_size-p-requires : goal.lesser_size-p-requires
-lesser_size-p-requires c = tt
-
-pub put_number-point-requires : goal.put_number-point-requires
-put_number-point-requires c = tt
-
-pub put_byte-rest-requires : goal.put_byte-rest-requires
-put_byte-rest-requires c = tt
-
-pub put_filled-end-requires : goal.put_filled-end-requires
-put_filled-end-requires c = tt
-
-pub put_bytes-requires : goal.put_bytes-requires
-put_bytes-requires c = tt
-
 -- the local buffer, once the parts were put, holds the text
 composed : (c : After-put_filled-end) →
-    take c.put_filled-end.result c.put_filled-end.new.0 ≡ decimal_text c.lesser_size-p.result c.args.n
+    take c.put_filled-end.result c.put_filled-end.new.out ≡ decimal_text c.lesser_size-p.result c.args.n
 composed c =
     decimal-parts _ _ c.power-unit.result _
     (omega (arith, c.lesser_size-p.ensures))

@@ -5,12 +5,6 @@ use borrow.Author.Rules.{rules}
 use Rattle.text.proofs.DigitCounts.{decimal-text}
 use Rattle.text.proofs.number.put_filled.Goals as goal
 
-pub decimal-k-requires : goal.decimal-k-requires
-decimal-k-requires c = tt
-
-pub put_right-requires : goal.put_right-requires
-put_right-requires c = tt
-
 pub returns : goal.returns
 returns c =
     let spelled = c.decimal-k.ensures in

@@ -4,8 +4,5 @@ use borrow.Author.Rules.{rules}
 use Rattle.text.proofs.Fills.{right-none}
 use Rattle.text.proofs.number.put_number.Goals as goal
 
-pub put_filled-requires : goal.put_filled-requires
-put_filled-requires c = tt
-
 pub returns : goal.returns
 returns c = rw right-none at c.put_filled.ensures

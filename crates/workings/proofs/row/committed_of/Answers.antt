@@ -7,8 +7,5 @@ use Rattle.workings.proofs.row.committed_of.Goals as goal
 pub returns-then-cleared-eq0 : goal.returns-then-cleared-eq0
 returns-then-cleared-eq0 c = from_nothing _ _ c.if-cleared-eq0.true
 
-pub greater-requires : goal.greater-requires
-greater-requires c = tt
-
 pub returns : goal.returns
 returns c = c.greater.ensures ∙ from_some _ _ c.if-cleared-eq0.false

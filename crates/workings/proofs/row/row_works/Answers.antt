@@ -7,11 +7,5 @@ use Rattle.workings.proofs.row.row_works.Goals as goal
 pub turn_at-turn-requires : goal.turn_at-turn-requires
 turn_at-turn-requires c = (c.requires.row_lists.0, c.requires.row_lists.1, c.requires.n_in_bounds.1)
 
-pub committed_of-committed-requires : goal.committed_of-committed-requires
-committed_of-committed-requires c = tt
-
-pub make_whole-requires : goal.make_whole-requires
-make_whole-requires c = tt
-
 pub returns : goal.returns
 returns c = row_is _ _ _ _ _ _ _ _ c.turn_at-turn.ensures c.committed_of-committed.ensures c.make_whole.ensures

@@ -40,7 +40,7 @@ accepted c = fault ⟦After-read_rows⟧ ∙ c.in_default.is
 abbrev columns : In_default → Columns
 columns c =
     let l = c.read_rows-found.new.1.1.1.1 in
-    columns_of l.0 l.1.0 l.1.1.0 l.1.1.1.0 l.1.1.1.1.0 l.1.1.1.1.1.0
+    columns_of c.read_rows-found.new.prices c.read_rows-found.new.quantities c.read_rows-found.new.leasts c.read_rows-found.new.resources c.read_rows-found.new.stamps c.read_rows-found.new.steps
 
 -- what the book says stands in them
 stands : (c : In_default) → let a = c.args in
