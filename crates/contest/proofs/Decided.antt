@@ -23,7 +23,7 @@ awarded-alone k₁ k₂ k₃ k₄ k₅ entry n spare exit other a b =
     (λ l. a.within i l ∙ sym (b.within i l)))
 
 -- the standings, by the contract of `award`
-pub award-decided : (κs : Lfts 6) (k₁ k₂ k₃ k₄ k₅ standings : Bor (List ℕ)) (after other : MutBor (List ℕ)) (n spare : ℕ)
+pub award-decided : (κs : Lfts 6) (k₁ k₂ k₃ k₄ k₅ : Bor (List ℕ)) (standings after other : MutBor (List ℕ)) (n spare : ℕ)
     → award.Post κs (k₁, (k₂, (k₃, (k₄, (k₅, (standings, (n, (spare, tt)))))))) tt (k₁, (k₂, (k₃, (k₄, (k₅, (after, (n, (spare, tt))))))))
     → award.Post κs (k₁, (k₂, (k₃, (k₄, (k₅, (standings, (n, (spare, tt)))))))) tt (k₁, (k₂, (k₃, (k₄, (k₅, (other, (n, (spare, tt))))))))
     → after.now ≡ other.now

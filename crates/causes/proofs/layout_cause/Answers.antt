@@ -44,20 +44,20 @@ returns-in-Refused-head_cause c =
 -- past the second block 0 passed, so that the number of offers fits
 head-told : (c : In_default-head_cause) →
     let book = c.args.book.now in
-    head_cause (block_of book 0) (block_count book) ≡ Passed
-head-told c = sym (as-head ⟦After-head_cause⟧) ∙ c.in_default-head_cause.is
+    c.head_cause.result ≡ head_cause (block_of book 0) (block_count book) → head_cause (block_of book 0) (block_count book) ≡ Passed
+head-told c own = sym own ∙ c.in_default-head_cause.is
 
 counted : (c : In_default-head_cause) →
     let book = c.args.book.now in
-    CountHolds (block_count book) (offer_count book)
-counted c = head-holds _ _ (sym (head-agree _ _) ∙ ap passes (head-told c))
+    c.head_cause.result ≡ head_cause (block_of book 0) (block_count book) → CountHolds (block_count book) (offer_count book)
+counted c own = head-holds _ _ (sym (head-agree _ _) ∙ ap passes (head-told c own))
 
 pub offers_section-requires : goal.offers_section-requires
 offers_section-requires c = omega (arith, length-holds _ (length-told (goal.at.offers_section-requires c).In_default))
 
 pub section_cause-requires : goal.section_cause-requires
 section_cause-requires c =
-    let n = counted (goal.at.section_cause-requires c).In_default-head_cause in
+    let n = counted (goal.at.section_cause-requires c).In_default-head_cause (as-head (goal.at.section_cause-requires c).After-head_cause) in
     let l = length-holds _ (length-told (goal.at.section_cause-requires c).In_default) in
     subst (Fits _) (sym c.offers_section.ensures)
     (record {
@@ -72,4 +72,4 @@ returns c =
     rw (length-told (goal.at.returns c).In_default)
     (c.section_cause.ensures
     ∙ ap (section_cause _) c.offers_section.ensures
-    ∙ sym (and_then-next _ _ (head-told (goal.at.returns c).In_default-head_cause)))
+    ∙ sym (and_then-next _ _ (head-told (goal.at.returns c).In_default-head_cause (as-head (goal.at.returns c).After-head_cause))))

@@ -30,7 +30,7 @@ offers c = row_offers c.args.book.now c.args.edition 1 c.args.n
 
 -- the offer that was read is the row's own
 as-offer : (c : After-offer_in-o) →
-    c.offer_in-o.result ≡ offer_at (offers ⟦Start⟧) c.loop-row.row
+    c.offer_in-o.result ≡ offer_at (row_offers c.args.book.now c.args.edition 1 c.args.n) c.loop-row.row
 as-offer c = offer-of-row _ _ _ _ _ c.loop-row-test.true c.row_bytes.ensures.0 c.offer_in-o.ensures
 
 -- as many as there are rows

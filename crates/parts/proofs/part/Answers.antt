@@ -31,7 +31,7 @@ quotient c =
     let a = c.args in
     c.rounded.ensures
     ∙ ap (λ (e : ℕ). e / a.level.sum) c.exact.ensures.0
-    ∙ sym (part_at a.level a.price a.quantity (at ⟦After-exact⟧))
+    ∙ sym (part_at a.level a.price a.quantity (omega arith))
 
 pub overflow_cast-result : goal.overflow_cast-result
 overflow_cast-result c =

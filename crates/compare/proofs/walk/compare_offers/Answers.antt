@@ -39,7 +39,7 @@ overflow_cast-result-then-not-same_rows-2 c = omega (arith, c.loop-i.invariant.m
 pub returns-then-not-same_rows : goal.returns-then-not-same_rows
 returns-then-not-same_rows c =
     walk-differ _ _ _ _ _ _ _ _ c.loop-i.invariant _ c.loop-i-test.true
-    c.if-m-j.false c.same_rows.ensures (not-true _ c.if-not-same_rows.true)
+    c.if-m-j.false c.same_rows.ensures c.if-not-same_rows.true
 
 pub overflow_add-shared : goal.overflow_add-shared
 overflow_add-shared c = omega (arith, c.loop-i.invariant.few, c.loop-i.invariant.most, c.requires.0.few)
@@ -63,7 +63,7 @@ pub loop-i-preserved : goal.loop-i-preserved
 loop-i-preserved c =
     rw (add-one c.loop-i.shared)
     (walk_more _ _ _ _ _ _ _ _ c.loop-i.invariant _ _ _ c.loop-i-test.true c.if-m-j.false
-    c.same_rows.ensures (not-false _ c.if-not-same_rows.false) (rw (add-one c.loop-i.i) (goal.at.loop-i-preserved c).At-loop-i c.next_row-i-in-loop-i.ensures)
+    c.same_rows.ensures c.if-not-same_rows.false (rw (add-one c.loop-i.i) (goal.at.loop-i-preserved c).At-loop-i c.next_row-i-in-loop-i.ensures)
     (rw (add-one c.loop-i.j) (goal.at.loop-i-preserved c).At-loop-i c.next_row-j-in-loop-i.ensures))
 
 pub overflow_cast-result-then-j-m : goal.overflow_cast-result-then-j-m

@@ -1,5 +1,6 @@
 -- `checks` finds the first block whose check is wrong. The loop's invariant: the blocks passed had right ones.
 -- Assumes nothing.
+use mathlib.Core.Bool.{not}
 use mathlib.Core.Path.{◌≡◌, sym, ap, ◌∙◌}
 use mathlib.Core.List.{List}
 use Prim.Native.Nat.{ℕ, ◌≤◌, ◌-◌}
@@ -31,7 +32,7 @@ returns-then-not-check_holds c =
     sym
     (first-refused _ _ _ 2 _ (omega arith)
     c.loop-k.invariant.1
-    (unless-failed _ (as-block (goal.at.returns-then-not-check_holds c).After-check_holds) c.if-not-check_holds.true))
+    (unless-failed _ (as-block (goal.at.returns-then-not-check_holds c).After-check_holds) (ap not c.if-not-check_holds.true)))
 
 pub loop-k-preserved : goal.loop-k-preserved
 loop-k-preserved c =
@@ -39,7 +40,7 @@ loop-k-preserved c =
   search rules,
   first_on _ _
       c.loop-k.invariant.1
-      (unless-held _ (as-block (goal.at.loop-k-preserved c).After-check_holds) c.if-not-check_holds.false),
+      (unless-held _ (as-block (goal.at.loop-k-preserved c).After-check_holds) (ap not c.if-not-check_holds.false)),
 )
 
 pub returns : goal.returns

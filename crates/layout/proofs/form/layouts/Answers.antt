@@ -1,5 +1,6 @@
 -- `layouts` tests block 0 first, and then the section of the offers, of which block 0 states the number.
 -- Assumes nothing.
+use mathlib.Core.Bool.{not}
 use mathlib.Core.Path.{◌≡◌, sym, ap, subst, ◌∙◌}
 use native.Mathlib.Omega.{arith}
 use borrow.Author.Rules.{rules}
@@ -24,17 +25,17 @@ as-head c = c.head_holds.ensures ∙ ap (head_holds _) c.requires.0
 pub returns-then-not-head_holds : goal.returns-then-not-head_holds
 unfolding layout_fault
 returns-then-not-head_holds c =
-    sym (and_then-refused _ _ 3 0 (unless-failed _ (as-head (goal.at.returns-then-not-head_holds c).After-head_holds) c.if-not-head_holds.true))
+    sym (and_then-refused _ _ 3 0 (unless-failed _ (as-head (goal.at.returns-then-not-head_holds c).After-head_holds) (ap not c.if-not-head_holds.true)))
 
 -- past the test of block 0 the number of offers fits
 counted : (c : Else-not-head_holds) →
     let book = c.args.book.now in
-    CountHolds (block_count book) (offer_count book)
-counted c = head-holds _ _ (sym (as-head ⟦After-head_holds⟧) ∙ not-false _ c.if-not-head_holds.false)
+    c.head_holds.result ≡ head_holds (block_of book 0) (block_count book) → CountHolds (block_count book) (offer_count book)
+counted c own = head-holds _ _ (sym own ∙ c.if-not-head_holds.false)
 
 pub section_fault-requires : goal.section_fault-requires
 section_fault-requires c =
-    let n = counted (goal.at.section_fault-requires c).Else-not-head_holds in
+    let n = counted (goal.at.section_fault-requires c).Else-not-head_holds (as-head (goal.at.section_fault-requires c).After-head_holds) in
     subst (Fits _) (sym c.offers_section.ensures)
     (record {
       within = omega (arith, n);
@@ -47,4 +48,4 @@ unfolding layout_fault
 returns c =
     c.section_fault.ensures
     ∙ ap (section_fault _) c.offers_section.ensures
-    ∙ sym (and_then-next _ _ (unless-held _ (as-head (goal.at.returns c).After-head_holds) c.if-not-head_holds.false))
+    ∙ sym (and_then-next _ _ (unless-held _ (as-head (goal.at.returns c).After-head_holds) (ap not c.if-not-head_holds.false)))

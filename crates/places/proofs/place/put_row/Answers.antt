@@ -7,14 +7,14 @@ use Rattle.places.proofs.Fields.{step_small, row-left, row_put}
 use Rattle.places.proofs.place.put_row.Goals as goal
 
 pub returns-then-not-step_within : goal.returns-then-not-step_within
-returns-then-not-step_within c = row-left _ _ _ _ (sym c.step_within.ensures ∙ not-true _ c.if-not-step_within.true)
+returns-then-not-step_within c = row-left _ _ _ _ (sym c.step_within.ensures ∙ c.if-not-step_within.true)
 
 pub put_place-requires : goal.put_place-requires
 put_place-requires c =
     let a = c.args in
-    (search rules, step_small a.edition a.o.step (sym c.step_within.ensures ∙ not-false _ c.if-not-step_within.false))
+    (search rules, step_small a.edition a.o.step (sym c.step_within.ensures ∙ c.if-not-step_within.false))
 
 pub returns : goal.returns
 returns c =
-    row_put _ _ _ _ (sym c.step_within.ensures ∙ not-false _ c.if-not-step_within.false)
+    row_put _ _ _ _ (sym c.step_within.ensures ∙ c.if-not-step_within.false)
     c.put_place.ensures

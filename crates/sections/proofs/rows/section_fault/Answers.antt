@@ -1,5 +1,6 @@
 -- `section_fault` finds the first block of a section whose layout is wrong. The loop's invariant: those passed had right ones.
 -- Assumes nothing.
+use mathlib.Core.Bool.{not}
 use mathlib.Core.Path.{◌≡◌, sym, ap, ◌∙◌}
 use Prim.Native.Nat.{◌≤◌, ◌+◌, ◌-◌}
 use native.Mathlib.Omega.{arith}
@@ -32,7 +33,7 @@ returns-then-not-rows_hold c =
     (first-refused _ _ _ 3 _
     (omega arith)
     c.loop-j.invariant.1
-    (unless-failed _ (as-block (goal.at.returns-then-not-rows_hold c).After-rows_hold) c.if-not-rows_hold.true))
+    (unless-failed _ (as-block (goal.at.returns-then-not-rows_hold c).After-rows_hold) (ap not c.if-not-rows_hold.true)))
 
 pub loop-j-smaller : goal.loop-j-smaller
 loop-j-smaller c = falls _ _ c.loop-j-test.true
@@ -44,7 +45,7 @@ loop-j-preserved c =
   search rules,
   first_on _ _
       c.loop-j.invariant.1
-      (unless-held _ (as-block (goal.at.loop-j-preserved c).After-rows_hold) c.if-not-rows_hold.false),
+      (unless-held _ (as-block (goal.at.loop-j-preserved c).After-rows_hold) (ap not c.if-not-rows_hold.false)),
 )
 
 pub returns : goal.returns

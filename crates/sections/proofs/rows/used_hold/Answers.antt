@@ -1,7 +1,7 @@
 -- `used_hold` tells whether the used places are laid out as such. The loop's invariant: those passed are.
 -- Assumes nothing.
 use mathlib.Core.Path.{◌≡◌, ap, ◌∙◌}
-use mathlib.Core.Bool.{true}
+use mathlib.Core.Bool.{true, not}
 use Prim.Native.Nat.{◌≤◌, ◌-◌}
 use lib.Dec.{ltb}
 use borrow.Author.Rules.{rules}
@@ -27,13 +27,13 @@ as_place c = c.used_only.ensures ∙ ap (used_only _ _) (place-part _ _)
 
 pub returns-then-not-used_only : goal.returns-then-not-used_only
 returns-then-not-used_only c =
-    place-failed _ _ 15 c.loop-i-test.true (as_place (goal.at.returns-then-not-used_only c).After-used_only) c.if-not-used_only.true
+    place-failed _ _ 15 c.loop-i-test.true (as_place (goal.at.returns-then-not-used_only c).After-used_only) (ap not c.if-not-used_only.true)
 
 pub loop-i-preserved : goal.loop-i-preserved
 loop-i-preserved c =
     (
   search rules,
-  place-held _ _ c.loop-i.invariant.1 (as_place (goal.at.loop-i-preserved c).After-used_only) c.if-not-used_only.false,
+  place-held _ _ c.loop-i.invariant.1 (as_place (goal.at.loop-i-preserved c).After-used_only) (ap not c.if-not-used_only.false),
 )
 
 pub returns : goal.returns

@@ -11,11 +11,11 @@ pub returns-then-not-used : goal.returns-then-not-used
 unfolding used_only
 returns-then-not-used c =
     let args = c.args in
-    sym (ap (λ (u : Bool). used_only args.last u args.p.now) (not-true args.used c.if-not-used.true))
+    sym (ap (λ (u : Bool). used_only args.last u args.p.now) c.if-not-used.true)
 
 pub returns : goal.returns
 unfolding used_only
 returns c =
     let args = c.args in
     c.used_holds.ensures
-    ∙ sym (ap (λ (u : Bool). used_only args.last u args.p.now) (not-false args.used c.if-not-used.false))
+    ∙ sym (ap (λ (u : Bool). used_only args.last u args.p.now) c.if-not-used.false)

@@ -9,4 +9,4 @@ pub returns : goal.returns
 returns c =
     let spelled = c.decimal-k.ensures in
     let n = c.args.n in
-    rw (← decimal-text n _ (omega arith) spelled.1.0 spelled.1.1) c.put_right.ensures
+    rw (← decimal-text n _ (omega arith) spelled.len spelled.digits) c.put_right.ensures
