@@ -5,14 +5,14 @@ use mathlib.Core.Path.{◌≡◌, sym, ◌∙◌}
 use mathlib.Core.List.{List}
 use Prim.Native.Nat.{ℕ}
 use contract.Lifetimes.{Lfts}
-use denote.Ref.{MutBor, at_last}
+use denote.Ref.{Bor, MutBor, at_last}
 use Rattle.pricing.specs.declared.ClearingPrice.{ClearingPrice}
 use Rattle.settle.proofs.commit.Reads as commit
 use Rattle.settle.proofs.mills_of.Reads as mills-of
 use Rattle.settle.proofs.make_whole.Reads as make-whole
 
 -- the tenths committed past what cleared, and what each row commits, by the contract of `commit`
-pub commit-decided : (κs : Lfts 3) (leasts cleared out leasts' cleared' out' : MutBor (List ℕ)) (n r s : ℕ) (after after' : List ℕ)
+pub commit-decided : (κs : Lfts 3) (leasts cleared : Bor (List ℕ)) (out : MutBor (List ℕ)) (leasts' cleared' : Bor (List ℕ)) (out' : MutBor (List ℕ)) (n r s : ℕ) (after after' : List ℕ)
     → leasts.now ≡ leasts'.now
     → cleared.now ≡ cleared'.now
     → out.now ≡ out'.now

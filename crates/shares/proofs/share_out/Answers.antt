@@ -53,19 +53,20 @@ held_at-requires c =
     parts-rows _ _ _ _ (divides (goal.at.held_at-requires c).Start) (parted (goal.at.held_at-requires c).After-parts) (holds (goal.at.held_at-requires c).After-parts)
 
 -- what the level holds is at most its amount, and leaves its spare tenths
-spares : (c : After-held_at) → (c.held_at.result ≤ c.args.level.amount)
+spares : (c : After-held_at) → HoldsParts c.args.level c.args.prices.now c.args.quantities.now c.args.n c.parts.new.out
+    → (c.held_at.result ≤ c.args.level.amount)
     × (c.args.level.amount - c.held_at.result ≡ spare_tenths (rows c) c.args.level.total c.args.level.price)
-spares c =
+spares c own =
     let a = c.args in
-    held-spare _ _ a.stamps.now a.resources.now a.steps.now _ _ (stopped c) (parted ⟦After-parts⟧) (holds ⟦After-parts⟧) _
+    held-spare _ _ a.stamps.now a.resources.now a.steps.now _ _ (stopped c) c.parts.new.out own _
     c.held_at.ensures
 
 pub overflow_sub-spare : goal.overflow_sub-spare
-overflow_sub-spare c = (spares (goal.at.overflow_sub-spare c).After-held_at).0
+overflow_sub-spare c = (spares (goal.at.overflow_sub-spare c).After-held_at (holds (goal.at.overflow_sub-spare c).After-parts)).0
 
 pub give-requires : goal.give-requires
 give-requires c =
-    record { divides = divides (goal.at.give-requires c).Start; ordered = c.requires.row_lists.1; stopped = stopped (goal.at.give-requires c).After-held_at; holds = holds (goal.at.give-requires c).After-parts; tenths = (spares (goal.at.give-requires c).After-held_at).1 }
+    record { divides = divides (goal.at.give-requires c).Start; ordered = c.requires.row_lists.1; stopped = stopped (goal.at.give-requires c).After-held_at; holds = holds (goal.at.give-requires c).After-parts; tenths = (spares (goal.at.give-requires c).After-held_at (holds (goal.at.give-requires c).After-parts)).1 }
 
 pub returns-then-spare-gt0 : goal.returns-then-spare-gt0
 returns-then-spare-gt0 c =
@@ -73,4 +74,4 @@ returns-then-spare-gt0 c =
 
 pub returns-else-spare-gt0 : goal.returns-else-spare-gt0
 returns-else-spare-gt0 c =
-    parts_shared (rows (goal.at.returns-else-spare-gt0 c).After-held_at) _ _ (stopped (goal.at.returns-else-spare-gt0 c).After-held_at) c.requires.n_in_bounds c.parts.ensures (sym (spares (goal.at.returns-else-spare-gt0 c).After-held_at).1 ∙ omega arith)
+    parts_shared (rows (goal.at.returns-else-spare-gt0 c).After-held_at) _ _ (stopped (goal.at.returns-else-spare-gt0 c).After-held_at) c.requires.n_in_bounds c.parts.ensures (sym (spares (goal.at.returns-else-spare-gt0 c).After-held_at (holds (goal.at.returns-else-spare-gt0 c).After-parts)).1 ∙ omega arith)

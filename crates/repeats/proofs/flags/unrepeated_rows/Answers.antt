@@ -16,7 +16,7 @@ use Rattle.repeats.proofs.Fresh.{repeat-fresh, repeat-untested}
 use Rattle.repeats.proofs.Flagged.{unmet-fresh, by-unset}
 use Rattle.repeats.proofs.Marked.{Marked, marked-none, marked_more, marked-same, by-passed, as_before}
 use Rattle.repeats.proofs.flags.unrepeated_rows.Goals as goal
-use Rattle.repeats.proofs.flags.unrepeated_rows.Goals.{Joined-steps-row}
+use Rattle.repeats.proofs.flags.unrepeated_rows.Goals.{Joined-steps-row, then-steps-row, else-steps-row, then-steps-row-2+else-not-absent, else-steps-row-2}
 
 pub returns-then-n-lt-FEW : goal.returns-then-n-lt-FEW
 returns-then-n-lt-FEW c = (omega arith, every-zero _)
@@ -32,23 +32,23 @@ passed : (c : Joined-steps-row)
 passed c =
     let inv = c.loop-row.invariant in
     let resources = c.args.resources.now in
-    ⊎_elim
-    (λ w. (
-      ⊎_elim
-          (λ v. repeat-fresh _ _ _ (sym v.1.ensures ∙ not-false _ v.2.left))
-          (λ v.
-          by-unset _ _ _ v.left
-          (repeat-untested _ _ _)
-          (λ unset. repeat-fresh _ _ _ (unmet-fresh _ _ _ _ _ w.1.ensures.0 inv.2.sum unset))
-          (λ unset. repeat-fresh _ _ _ (unmet-fresh _ _ _ _ _ w.2.ensures.0 inv.2.product unset)))
-          w.4.came,
-      rw w.5 (marked_more _ _ _ _ _ w.1.ensures w.2.ensures inv.2),
-    ))
-    (λ w.
-    let skipped = by-passed _ _ w.0.left in
-    let same = as_before (λ r. get_or resources r 0) _ (sym c.as_before.ensures ∙ skipped.1) in
-    (repeat-untested _ _ _ skipped.0, rw w.1 (marked-same _ _ _ same.0 same.1 inv.2)))
-    c.if-steps-row.branch
+    elim c.if-steps-row.branch [
+      then-steps-row w ↦ (
+        elim w.if-steps-row-2.branch [
+          then-steps-row-2+else-not-absent v ↦ repeat-fresh _ _ _ (sym v.absent.ensures ∙ v.if-not-absent.false)
+          | else-steps-row-2 v ↦
+              by-unset _ _ _ v.if-steps-row-2.false
+              (repeat-untested _ _ _)
+              (λ unset. repeat-fresh _ _ _ (unmet-fresh _ _ _ _ _ w.flag_of_sum-by_sum.ensures.0 inv.2.sum unset))
+              (λ unset. repeat-fresh _ _ _ (unmet-fresh _ _ _ _ _ w.flag_of_product-by_product.ensures.0 inv.2.product unset))
+        ],
+        rw w.met-is (marked_more _ _ _ _ _ w.flag_of_sum-by_sum.ensures w.flag_of_product-by_product.ensures inv.2),
+      )
+      | else-steps-row w ↦
+          let skipped = by-passed _ _ w.if-steps-row.false in
+          let same = as_before (λ r. get_or resources r 0) _ (sym c.as_before.ensures ∙ skipped.1) in
+          (repeat-untested _ _ _ skipped.0, rw w.met-is (marked-same _ _ _ same.0 same.1 inv.2))
+    ]
 
 pub loop-row-preserved : goal.loop-row-preserved
 loop-row-preserved c =

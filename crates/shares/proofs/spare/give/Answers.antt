@@ -14,7 +14,7 @@ use Rattle.parts.specs.inner.Parts.{row_key}
 use Rattle.shares.specs.inner.Halves.{high_half, low_half}
 use Rattle.shares.proofs.Tenths.{standing-most, won-adds, won-cleared}
 use Rattle.shares.proofs.spare.give.Goals as goal
-use Rattle.shares.proofs.spare.give.Goals.{After-award, After-line_up, After-standings-3-1}
+use Rattle.shares.proofs.spare.give.Goals.{After-award, After-line_up}
 
 -- the lists that the calls leave behind
 abbrev keys : After-line_up → List ℕ
@@ -71,7 +71,12 @@ halves c i h =
 pub add-requires : goal.add-requires
 add-requires c =
     won-adds _ _ _ _ _ _ _ _ _ c.requires (highs (goal.at.add-requires c).After-line_up) (lows (goal.at.add-requires c).After-line_up) (keys (goal.at.add-requires c).After-line_up) (standings (goal.at.add-requires c).After-line_up) (tenths (goal.at.add-requires c).After-award) c.award.ensures
-    (omega (arith, c.award.ensures.rows, (award-requires (goal.at.add-requires c).After-standings-3-1 c.award.lifetimes).standing))
+    (omega (
+      arith,
+      c.award.ensures.rows,
+      length-filling _ _ _ c.line_up.ensures.standings_after,
+      c.requires.divides.rows.few,
+    ))
 
 pub returns : goal.returns
 returns c =

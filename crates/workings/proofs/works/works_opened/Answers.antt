@@ -33,8 +33,8 @@ returns-in-Refused c =
     answer-refused _ _ _ _ (fault (goal.at.returns-in-Refused c).After-read_rows-found ∙ c.in-Refused.is)
 
 -- past the test the book is accepted
-accepted : (c : In_default) → first_fault c.args.book.now ≡ Passed
-accepted c = fault ⟦After-read_rows⟧ ∙ c.in_default.is
+accepted : (c : In_default) → first_fault c.args.book.now ≡ c.read_rows-found.result → first_fault c.args.book.now ≡ Passed
+accepted c own = own ∙ c.in_default.is
 
 -- the columns after the rows are read
 abbrev columns : In_default → Columns
