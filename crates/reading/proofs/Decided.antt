@@ -6,7 +6,7 @@ use mathlib.Core.Bool.{Bool}
 use mathlib.Core.List.{List}
 use Prim.Native.Nat.{ℕ}
 use contract.Lifetimes.{Lfts}
-use denote.Ref.{Bor}
+use denote.Ref.{Bor, MutBor}
 use Rattle.values.specs.declared.Verdict.{Verdict}
 use Rattle.values.specs.declared.place.Offer.{Offer}
 use Rattle.values.specs.Contents.{offer_at}
@@ -35,7 +35,7 @@ rows-alone edition offers r s before after other e f = (
 
 -- the first fault of rows and their columns, by the contract of `read_rows`, refused or not
 pub read-rows-decided : (κs : Lfts 7) (book : Bor (List ℕ)) (edition first n : ℕ)
-    (p q l m t u p₁ q₁ l₁ m₁ t₁ u₁ p₂ q₂ l₂ m₂ t₂ u₂ : Bor (List ℕ)) (r s : Verdict)
+    (p q l m t u p₁ q₁ l₁ m₁ t₁ u₁ p₂ q₂ l₂ m₂ t₂ u₂ : MutBor (List ℕ)) (r s : Verdict)
     → read-rows.Post κs (book, (edition, (first, (n, (p, (q, (l, (m, (t, (u, tt)))))))))) r
     (book, (edition, (first, (n, (p₁, (q₁, (l₁, (m₁, (t₁, (u₁, tt))))))))))
     → read-rows.Post κs (book, (edition, (first, (n, (p, (q, (l, (m, (t, (u, tt)))))))))) s

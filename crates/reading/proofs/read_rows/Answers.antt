@@ -12,7 +12,7 @@ use Rattle.columns.specs.inner.Columns.{Columns, columns_of}
 use Rattle.reading.proofs.Puts.{put-room}
 use Rattle.reading.proofs.Found.{ValuesFound, found-held, found_as, found-tested, found_within, found_rows}
 use Rattle.reading.proofs.read_rows.Goals as goal
-use Rattle.reading.proofs.read_rows.Goals.{Joined-told-held}
+use Rattle.reading.proofs.read_rows.Goals.{then-told-held, else-told-held, Joined-told-held}
 
 -- the columns at the entry, and as they are once the resource numbers and the steps may have been stored again
 abbrev before : Joined-told-held → Columns
@@ -22,7 +22,6 @@ before c =
 
 abbrev after : Joined-told-held → List ℕ → List ℕ → Columns
 after c resources steps =
-    let l = c.put_rows-told.new.1.1.1.1 in
     columns_of c.put_rows-told.new.prices c.put_rows-told.new.quantities c.put_rows-told.new.leasts resources c.put_rows-told.new.stamps steps
 
 pub values_tested-found-requires : goal.values_tested-found-requires
@@ -35,10 +34,15 @@ found : (c : Joined-told-held) →
     (after c c.if-told-held.resources c.if-told-held.steps)
 found c =
     let room = c.requires.1 in
-    ⊎_elim
-    (λ w. found_as (found-held _ _ _ _ c.put_rows-told.ensures room c.columns_hold-held.ensures w.0.taken) w.1 w.2 w.3)
-    (λ w. found_as (found-tested _ _ _ c.put_rows-told.ensures room w.3.ensures) w.8 w.9 w.10)
-    c.if-told-held.branch
+    elim c.if-told-held.branch [
+      then-told-held w ↦
+          found_as (found-held _ _ _ _ c.put_rows-told.ensures room c.columns_hold-held.ensures w.if-told-held.true)
+          w.resources-is
+          w.steps-is
+          w.found-is
+      | else-told-held w ↦
+          found_as (found-tested _ _ _ c.put_rows-told.ensures room w.values_tested-found.ensures) w.resources-is w.steps-is w.found-is
+    ]
 
 pub with_repeats-requires : goal.with_repeats-requires
 with_repeats-requires c = found_within _ _ _ (found (goal.at.with_repeats-requires c).Joined-told-held) c.requires.1

@@ -17,7 +17,7 @@ use Rattle.layout.proofs.Contained.{offer-of-row}
 use Rattle.reading.specs.inner.Rows.{ValuesTested}
 use Rattle.reading.proofs.Tests.{row_at, row-fault, tested-none, tested-more, tested-refused, tested-end}
 use Rattle.reading.proofs.tested.values_tested.Goals as goal
-use Rattle.reading.proofs.tested.values_tested.Goals.{After-offer_in-o, In-Refused, Joined-o-eq1}
+use Rattle.reading.proofs.tested.values_tested.Goals.{then-o-eq1, else-o-eq1, After-offer_in-o, In-Refused, Joined-o-eq1}
 
 pub loop-row-init : goal.loop-row-init
 loop-row-init c = (search rules, (search rules, tested-none _ _ _ _ _))
@@ -48,32 +48,27 @@ row_told : (c : Joined-o-eq1) →
     let a = c.args in
     c.if-o-eq1.fault ≡ row_fault a.needed a.edition (row_offer a.book.now a.edition a.first (c.loop-row.row - 1)) c.offer_in-o.result c.loop-row.row
 row_told c =
-    ⊎_elim
-    (λ w. w.2 ∙ w.1.ensures ∙ sym (row_fault-first _ _ _ _ _ w.0.taken))
-    (λ w. w.2 ∙ w.1.ensures)
-    c.if-o-eq1.branch
+    elim c.if-o-eq1.branch [
+      then-o-eq1 w ↦ w.fault-is ∙ w.offer_fault-fault.ensures ∙ sym (row_fault-first _ _ _ _ _ w.if-o-eq1.true)
+      | else-o-eq1 w ↦ w.fault-is ∙ w.past_tested-fault.ensures
+    ]
 
 -- and its fault is that of the definition
 as-fault : (c : Joined-o-eq1) →
+    let a = c.args in
     let row = c.loop-row.row in
-    c.if-o-eq1.fault ≡ row_fault c.args.needed c.args.edition (offer ⟦After-offer_in⟧ (row - 1)) (offer ⟦After-offer_in⟧ row) row
-as-fault c = row-fault _ _ _ _ _ c.loop-row-test.true (as-offer ⟦After-offer_in⟧) _ (row_told c)
+    let offers = row_offers a.book.now a.edition a.first a.n in
+    c.offer_in-o.result ≡ offer_at offers row
+    → c.if-o-eq1.fault ≡ row_fault a.needed a.edition (offer_at offers (row - 1)) (offer_at offers row) row
+as-fault c own = row-fault _ _ _ _ _ c.loop-row-test.true own _ (row_told c)
 
 -- the columns up to the row that is refused
 pub returns-in-Refused : goal.returns-in-Refused
 returns-in-Refused c =
-    tested-refused _ _ _ _ c.loop-row.invariant.1.1 (as-offer (goal.at.returns-in-Refused c).After-offer_in-o) _ _ _ c.loop-row-test.true
-    (sym (as-fault (goal.at.returns-in-Refused c).Joined-o-eq1) ∙ c.in-Refused.is)
-
-pub shape_of-resources-in-Refused : goal.shape_of-resources-in-Refused
-shape_of-resources-in-Refused c =
-    length-filling _ _ _ (refused (goal.at.shape_of-resources-in-Refused c).In-Refused).resource
-
-pub shape_of-steps-in-Refused : goal.shape_of-steps-in-Refused
-shape_of-steps-in-Refused c = length-filling _ _ _ (refused (goal.at.shape_of-steps-in-Refused c).In-Refused).step
-
-pub returns-in-Refused : goal.returns-in-Refused
-returns-in-Refused = refused
+    let at = goal.at.returns-in-Refused c in
+    let own = as-offer at.After-offer_in-o in
+    tested-refused _ _ _ _ c.loop-row.invariant.1.1 own _ _ _ c.loop-row-test.true
+    (sym (as-fault at.Joined-o-eq1 own) ∙ c.in-Refused.is)
 
 pub overflow_add-row : goal.overflow_add-row
 overflow_add-row c = omega (arith, c.loop-row-test.true, c.ranges.n)
@@ -84,7 +79,7 @@ loop-row-preserved c =
       search rules,
       (
         search rules,
-        tested-more _ _ _ _ c.loop-row.invariant.1.1 (as-offer (goal.at.loop-row-preserved c).After-offer_in-o) (sym (as-fault (goal.at.loop-row-preserved c).Joined-o-eq1) ∙ c.in_default.is),
+        tested-more _ _ _ _ c.loop-row.invariant.1.1 (as-offer (goal.at.loop-row-preserved c).After-offer_in-o) (sym (as-fault (goal.at.loop-row-preserved c).Joined-o-eq1 (as-offer (goal.at.loop-row-preserved c).After-offer_in-o)) ∙ c.in_default.is),
       ),
     )
 
