@@ -55,26 +55,30 @@ commit-past-requires c =
     (cleared-committable _ _ _ (columns (goal.at.commit-past-requires c).After-sell-sale) c.requires.some_stand.stands _ (amounts (goal.at.commit-past-requires c).After-sell-sale) c.requires.n_in_bounds.0 (some (goal.at.commit-past-requires c).After-sell-sale).amounts, c.requires.n_in_bounds.1)
 
 -- the price on what cleared, and all make-whole
-daily-most : (c : After-mills_of) → c.mills_of.result + c.mills_of-make_whole.result ≤ 117178068800000
-daily-most c =
+daily-most : (c : After-mills_of)
+    → SoldAs c.requires.some_stand.contents c.args.cleared.now c.sell-sale.result c.sell-sale.new.amounts
+    → c.mills_of.result + c.mills_of-make_whole.result ≤ 117178068800000
+daily-most c own =
+    let a = c.args in
+    let columns = columns_of a.prices.now a.quantities.now a.leasts.now a.resources.now a.stamps.now a.steps.now in
     let s = c.requires.some_stand.stands in
     omega (
       arith,
       c.mills_of.ensures,
-      mills-most _ _ _ (columns ⟦After-sell⟧) s _ _ (some ⟦After-sell⟧).quote (some ⟦After-sell⟧).quantity,
+      mills-most _ _ _ columns s _ _ own.quote own.quantity,
       c.mills_of-make_whole.ensures,
-      whole-most _ _ _ (columns ⟦After-sell⟧) s _ _ (some ⟦After-sell⟧).quote c.commit-past.ensures.value.1,
+      whole-most _ _ _ columns s _ _ own.quote c.commit-past.ensures.value.1,
     )
 
 pub overflow_add-daily : goal.overflow_add-daily
-overflow_add-daily c = omega (arith, daily-most (goal.at.overflow_add-daily c).After-mills_of)
+overflow_add-daily c = omega (arith, daily-most (goal.at.overflow_add-daily c).After-mills_of (some (goal.at.overflow_add-daily c).After-sell-sale))
 
 pub overflow_mul-result : goal.overflow_mul-result
 overflow_mul-result c =
-    record { fits = lt_of_le_of_lt (mul-le-mul c.days_of.ensures.1 (daily-most (goal.at.overflow_mul-result c).After-mills_of)) (lit< tt) }
+    record { fits = lt_of_le_of_lt (mul-le-mul c.days_of.ensures.1 (daily-most (goal.at.overflow_mul-result c).After-mills_of (some (goal.at.overflow_mul-result c).After-sell-sale))) (lit< tt) }
 
 pub returns : goal.returns
-returns c =
+returns c = λ k s.
     let long = c.requires.n_in_bounds.0 in
     let sale = sold (goal.at.returns c).After-sell-sale k s in
     let paid = c.commit-past.ensures in

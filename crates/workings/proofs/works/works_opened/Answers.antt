@@ -39,22 +39,25 @@ accepted c own = own ∙ c.in_default.is
 -- the columns after the rows are read
 abbrev columns : In_default → Columns
 columns c =
-    let l = c.read_rows-found.new.1.1.1.1 in
     columns_of c.read_rows-found.new.prices c.read_rows-found.new.quantities c.read_rows-found.new.leasts c.read_rows-found.new.resources c.read_rows-found.new.stamps c.read_rows-found.new.steps
 
 -- what the book says stands in them
 stands : (c : In_default) → let a = c.args in
-    Stands (contents_of a.book.now) a.p a.rows (columns c)
-stands c =
-    opened-stands _ _ _ _ c.requires _ (columns c) _ (accepted c) (blank ⟦Start⟧) c.read_rows-found.ensures
+    first_fault c.args.book.now ≡ c.read_rows-found.result → Blank c.args.rows (empty 600)
+    → Stands (contents_of a.book.now) a.p a.rows (columns c)
+stands c own room =
+    opened-stands _ _ _ _ c.requires _ (columns c) _ (accepted c own) room c.read_rows-found.ensures
 
 pub works_at-requires : goal.works_at-requires
 works_at-requires c =
-    let ok = stands (goal.at.works_at-requires c).In_default in record {
+    let at = goal.at.works_at-requires c in
+    let ok = stands at.In_default (fault at.After-read_rows-found) (blank at.Start) in record {
       ranged = (subst Ranged (sym ok.own) ok.clearable.parameters, columns-rows _ _ _ _ ok, leasts-long _ _ _ _ ok);
       ordered = columns-ordered _ _ _ _ ok;
     }
 
 pub returns : goal.returns
 returns c =
-    answer-worked _ _ _ (accepted (goal.at.returns c).In_default) (works-stand _ _ _ (columns (goal.at.returns c).In_default) _ _ _ _ (stands (goal.at.returns c).In_default) c.works_at.ensures)
+    let at = goal.at.returns c in
+    let own = fault at.After-read_rows-found in
+    answer-worked _ _ _ (accepted at.In_default own) (works-stand _ _ _ (columns at.In_default) _ _ _ _ (stands at.In_default own (blank at.Start)) c.works_at.ensures)
