@@ -29,11 +29,5 @@ clear_rows-requires c =
       blank = record { room = 15; enough = c.requires.1; zeros = refl {a = empty 15} };
     }
 
-pub shape_of-cleared : goal.shape_of-cleared
-shape_of-cleared c = c.clear_rows.auto.1.1.1.1.1.1.1.1.1.1.0
-
-pub shape_of-committed : goal.shape_of-committed
-shape_of-committed c = c.clear_rows.auto.1.1.1.1.1.1.1.1.1.1.1.0
-
 pub returns : goal.returns
 returns c = c.clear_rows.ensures

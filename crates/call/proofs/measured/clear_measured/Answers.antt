@@ -28,11 +28,5 @@ passed c =
 pub clear_opened-requires : goal.clear_opened-requires
 clear_opened-requires c = passed (goal.at.clear_opened-requires c).In_default
 
-pub shape_of-cleared : goal.shape_of-cleared
-shape_of-cleared c = c.clear_opened.auto.1.1.1.1.0
-
-pub shape_of-committed : goal.shape_of-committed
-shape_of-committed c = c.clear_opened.auto.1.1.1.1.1.0
-
 pub returns : goal.returns
 returns c = rw c.by_fields.ensures c.clear_opened.ensures

@@ -10,23 +10,11 @@ returns-then-rows-eq0 c = outcome-empty _ _ _ _ _ _ _ c.requires (search rules) 
 pub clear_few-requires : goal.clear_few-requires
 clear_few-requires c = (c.requires, search rules)
 
-pub shape_of-cleared-then-rows-le15 : goal.shape_of-cleared-then-rows-le15
-shape_of-cleared-then-rows-le15 c = c.clear_few.auto.1.1.1.1.0
-
-pub shape_of-committed-then-rows-le15 : goal.shape_of-committed-then-rows-le15
-shape_of-committed-then-rows-le15 c = c.clear_few.auto.1.1.1.1.1.0
-
 pub returns-then-rows-le15 : goal.returns-then-rows-le15
 returns-then-rows-le15 c = c.clear_few.ensures
 
 pub clear_many-requires : goal.clear_many-requires
 clear_many-requires c = c.requires
-
-pub shape_of-cleared : goal.shape_of-cleared
-shape_of-cleared c = c.clear_many.auto.1.1.1.1.0
-
-pub shape_of-committed : goal.shape_of-committed
-shape_of-committed c = c.clear_many.auto.1.1.1.1.1.0
 
 pub returns : goal.returns
 returns c = c.clear_many.ensures

@@ -8,9 +8,6 @@ use Rattle.faultlines.proofs.refused.put_refused_row.Goals as goal
 pub slice_bounds-put_form-end-2 : goal.slice_bounds-put_form-end-2
 slice_bounds-put_form-end-2 c = refl
 
-pub shape_of-room : goal.shape_of-room
-shape_of-room c = c.put_form.auto.0
-
 pub returns : goal.returns
 unfolding refused_row_numbers
 returns c = showing _ _ c.put_form.ensures refl

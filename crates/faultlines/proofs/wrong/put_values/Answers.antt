@@ -21,9 +21,6 @@ slice_bounds-put_form-end-2 c = refl
 pub overflow_cast-o : goal.overflow_cast-o
 overflow_cast-o c = Fits-32_64 c.struct_known-4-1.given.1.1.1.0
 
-pub shape_of-room : goal.shape_of-room
-shape_of-room c = c.put_form.auto.0
-
 pub returns : goal.returns
 returns c =
     showing _ _ c.put_form.ensures

@@ -25,9 +25,6 @@ net_cents-requires c = c.weights_of-weights.ensures.second-most
 pub overflow_cast-c-2 : goal.overflow_cast-c-2
 overflow_cast-c-2 c = Fits-32_64 c.struct_known-2-1.given.1.0.0
 
-pub shape_of-room : goal.shape_of-room
-shape_of-room c = c.put_form.auto.0
-
 pub returns : goal.returns
 returns c =
     showing _ _ c.put_form.ensures

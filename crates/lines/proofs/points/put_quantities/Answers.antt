@@ -28,9 +28,6 @@ overflow_cast-weights-3 c = Fits-32_64 c.struct_known-5-1.given.1.1.1.1.0
 pub overflow_cast-c-3 : goal.overflow_cast-c-3
 overflow_cast-c-3 c = Fits-32_64 c.struct_known-6-1.given.1.1.1.1.0
 
-pub shape_of-room : goal.shape_of-room
-shape_of-room c = c.put_form.auto.0
-
 pub returns : goal.returns
 returns c =
     showing _ _ c.put_form.ensures

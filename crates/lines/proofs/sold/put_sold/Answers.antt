@@ -12,9 +12,6 @@ overflow_cast-total c = Fits-32_64 c.struct_known-1.given.0
 pub slice_bounds-put_form-end-2 : goal.slice_bounds-put_form-end-2
 slice_bounds-put_form-end-2 c = refl
 
-pub shape_of-room : goal.shape_of-room
-shape_of-room c = c.put_form.auto.0
-
 pub returns : goal.returns
 returns c =
     showing _ _ c.put_form.ensures

@@ -12,9 +12,6 @@ slice_bounds-put_form-end-2 c = refl
 pub overflow_cast-p : goal.overflow_cast-p
 overflow_cast-p c = Fits-32_64 c.struct_known-1.given.0
 
-pub shape_of-room : goal.shape_of-room
-shape_of-room c = c.put_form.auto.0
-
 pub returns : goal.returns
 returns c =
     showing _ _ c.put_form.ensures

@@ -15,9 +15,6 @@ overflow_cast-s-2 c = Fits-32_64 c.struct_known-4-1.given.1.0.1.0
 pub overflow_cast-s-3 : goal.overflow_cast-s-3
 overflow_cast-s-3 c = Fits-32_64 c.struct_known-5-1.given.1.0.1.1.1.1.0
 
-pub shape_of-room : goal.shape_of-room
-shape_of-room c = c.put_form.auto.0
-
 pub returns : goal.returns
 returns c =
     showing _ _ c.put_form.ensures

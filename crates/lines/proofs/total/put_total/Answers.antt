@@ -21,9 +21,6 @@ overflow_cast-s-3 c = Fits-32_64 c.struct_known-4-1.given.1.1.0.0.0
 pub overflow_cast-s-4 : goal.overflow_cast-s-4
 overflow_cast-s-4 c = Fits-32_64 c.struct_known-5-1.given.1.1.0.1.0
 
-pub shape_of-room : goal.shape_of-room
-shape_of-room c = c.put_form.auto.0
-
 pub returns : goal.returns
 unfolding total_numbers
 returns c =

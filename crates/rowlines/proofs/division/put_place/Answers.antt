@@ -16,9 +16,6 @@ overflow_cast-c c = Fits-32_64 c.struct_known-1.given.1.1.0
 pub overflow_cast-c-2 : goal.overflow_cast-c-2
 overflow_cast-c-2 c = Fits-32_64 c.struct_known-2-1.given.1.1.1.0
 
-pub shape_of-room : goal.shape_of-room
-shape_of-room c = c.put_form.auto.0
-
 pub returns : goal.returns
 unfolding place_numbers
 returns c =

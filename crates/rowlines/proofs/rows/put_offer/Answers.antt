@@ -25,9 +25,6 @@ overflow_cast-o-4 c = Fits-32_64 c.struct_known-4-1.given.1.0
 pub overflow_cast-number_held : goal.overflow_cast-number_held
 overflow_cast-number_held c = Fits-32_64 (record { fits = c.number_held.type-inv })
 
-pub shape_of-room : goal.shape_of-room
-shape_of-room c = c.put_form.auto.0
-
 pub returns : goal.returns
 returns c =
     showing _ _ c.put_form.ensures

@@ -21,9 +21,6 @@ overflow_cast-s-3 c = Fits-32_64 c.struct_known-5-1.given.0
 pub overflow_cast-s-4 : goal.overflow_cast-s-4
 overflow_cast-s-4 c = Fits-32_64 c.struct_known-6-1.given.1.0
 
-pub shape_of-room : goal.shape_of-room
-shape_of-room c = c.put_form.auto.0
-
 pub returns : goal.returns
 unfolding part_numbers
 returns c =

@@ -5,9 +5,6 @@ use Rattle.rowlines.specs.Rows.{rows_head_numbers}
 use Rattle.wording.proofs.Showing.{showing}
 use Rattle.rowlines.proofs.rows.put_rows_head.Goals as goal
 
-pub shape_of-room : goal.shape_of-room
-shape_of-room c = c.put_form.auto.0
-
 pub returns : goal.returns
 unfolding rows_head_numbers
 returns c = showing _ _ c.put_form.ensures refl

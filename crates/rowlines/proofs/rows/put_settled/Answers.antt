@@ -13,9 +13,6 @@ slice_bounds-put_form-end-2 c = refl
 pub overflow_cast-excess : goal.overflow_cast-excess
 overflow_cast-excess c = Fits-32_64 (record { fits = c.excess.type-inv })
 
-pub shape_of-room : goal.shape_of-room
-shape_of-room c = c.put_form.auto.0
-
 pub returns : goal.returns
 unfolding settled_numbers
 returns c =

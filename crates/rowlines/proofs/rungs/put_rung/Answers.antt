@@ -21,9 +21,6 @@ overflow_cast-rung-3 c = Fits-32_64 c.struct_known-3-1.given.1.1.0
 pub overflow_cast-rung-5 : goal.overflow_cast-rung-5
 overflow_cast-rung-5 c = Fits-32_64 c.struct_known-7-1.given.1.1.1.0
 
-pub shape_of-room : goal.shape_of-room
-shape_of-room c = c.put_form.auto.0
-
 pub returns : goal.returns
 unfolding rung_numbers
 returns c =

@@ -7,8 +7,5 @@ use Rattle.rowlines.proofs.turn.put_turn.Goals as goal
 pub slice_bounds-put_form-end-2 : goal.slice_bounds-put_form-end-2
 slice_bounds-put_form-end-2 c = refl
 
-pub shape_of-room : goal.shape_of-room
-shape_of-room c = c.put_form.auto.0
-
 pub returns : goal.returns
 returns c = showing _ _ c.put_form.ensures c.turn_numbers-n.ensures.numbers
