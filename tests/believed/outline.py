@@ -6,12 +6,16 @@ from words import Unread
 
 
 def named(cell):
-    """The names in a cell of the table; a file in brackets says where the names before it stand."""
+    """The names in a cell of the table; a file in brackets says where the names before it stand.
+
+    Behind `contract of` stands a function, and behind `contracts of` several, up to the next `;`: a law has a hyphen.
+    """
     for part in cell.split(";"):
-        waiting = []
-        for function, name, place in re.findall(r"(contract of )?`([^`]+)`|\((\w+/(?:specs|proofs)/[\w/]+)\)", part):
+        waiting, several = [], False
+        for function, name, place in re.findall(r"(contracts? of )?`([^`]+)`|\((\w+/(?:specs|proofs)/[\w/]+)\)", part):
             if name:
-                waiting += [] if function else [name]
+                several = several or function.startswith("contracts")
+                waiting += [] if function or several and "-" not in name else [name]
             else:
                 yield from ((name, place) for name in waiting)
                 waiting = []

@@ -67,7 +67,7 @@ class Reader:
             return None
         if text in CLOSE and self.current:
             return self.current.heads[-1].append(line)
-        if self.current is None or not (first in ("unfolding", self.current.name) or "_" in self.current.name):
+        if self.current is None or not (first in ("unfolding", self.current.name) or "◌" in self.current.name):
             raise Unread(text)
         self.current.heads.append([line])
 

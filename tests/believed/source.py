@@ -56,7 +56,7 @@ class Declared:
         if self.kind != "contract":
             return []
         text = " ".join(self.lines)
-        return Walk(words(re.sub(r"\b(requires|ensures) \{", "{", text)), self.arguments | {"now"}).free
+        return Walk(words(re.sub(r"\b(requires|ensures)( \w+)? \{", "{", text)), self.arguments | {"result"}).free
 
 
 class Source:
@@ -88,11 +88,13 @@ class Source:
             self.comment = []
 
     def use(self, line):
-        """`use a::b::T;`"""
-        steps = line[4:].rstrip(";").split("::")
+        """`use a::b::T;` or `use a::b::{T, f};`: the types that it brings."""
+        path, _, last = line[4:].rstrip(";").rpartition("::")
+        steps = path.split("::")
         crate = self.crate if steps[0] == "crate" else steps[0]
-        if crate in self.imports.crates:
-            self.imports.names[steps[-1]] = Target(crate, "src", "/".join(steps[1:-1]) or "lib", steps[-1])
+        for name in re.findall(r"\b[A-Z]\w*", last):
+            if crate in self.imports.crates:
+                self.imports.names[name] = Target(crate, "src", "/".join(steps[1:]) or "lib", name)
 
     def body(self, lines, place):
         """The lines of a type, without comments."""

@@ -52,8 +52,8 @@ class Tree:
     def at(self, target):
         """The definition that a target names; None for what belongs to the kit."""
         if target.crate is None:
-            crate = re.match(r"Rattle·(\w+)", target.path)
-            if crate and not any(crate[1] in below for below in self.below.values()):
+            crate = re.match(r"Rattle\.(\w+)", target.path)
+            if crate and crate[1] != "std" and not any(crate[1] in below for below in self.below.values()):
                 raise Unread(f"no crate {crate[1]}")
             self.kit.setdefault(target.path, set()).add(target.name)
             return None
@@ -66,12 +66,13 @@ class Tree:
 
     def resolve(self, made, word):
         """What a free word of a definition stands for."""
-        if word in made.own and word not in made.imports.names:
-            return made.own[word]
+        head = word.partition(".")[0]
+        if head in made.own and head not in made.imports.names:
+            return made.own[head]
         found = made.imports.find(word)
         if found is None:
             for name, other in made.own.items():
-                if "_" in name and word in name.split("_"):
+                if "◌" in name and word in name.split("◌"):
                     return other
             raise Unread(f"`{word}` is no argument, no definition of the file and not imported")
         return self.at(found)

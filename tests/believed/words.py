@@ -26,6 +26,7 @@ def words(text):
 
 
 def is_name(word):
+    """What stands behind a dot of its own is a field of what stands before it."""
     return not (word in LANGUAGE or word in OPEN or word in CLOSE or word[0] == "." or word.isdigit())
 
 
@@ -104,6 +105,9 @@ class Walk:
             return end + 1
         elif word == "in":
             self.bind([self.lets.pop()])
-        elif is_name(word) and not is_field(found, place) and not any(word in names for names, _ in self.scopes):
+        elif is_name(word) and not is_field(found, place) and not self.is_bound(word.partition(".")[0]):
             self.free.append(word)
         return place + 1
+
+    def is_bound(self, name):
+        return any(name in names for names, _ in self.scopes)
