@@ -4,14 +4,13 @@
 -- divided, clear by price and are best.
 -- Assumes nothing.
 use mathlib.Core.Path.{◌≡◌}
-use mathlib.Core.Option.{some}
 use Prim.Native.Nat.{ℕ, ◌≤◌, ◌<◌}
 use native.Mathlib.Nat.{le_refl, le_trans}
 use native.Mathlib.Omega.{arith}
 use Rattle.laws.proofs.Cases.{by_order}
 use Rattle.laws.proofs.Sums.{sum_to-place}
 use Rattle.auction.specs.Offers.{Offers, Demand, Falling}
-use Rattle.auction.specs.Clearing.{cleared_total, clearing_price}
+use Rattle.auction.specs.Clearing.{cleared_total}
 use Rattle.auction.specs.Surplus.{total}
 use Rattle.auction.specs.Demands.{IsTotal, ByPrice, Best}
 use Rattle.auction.proofs.Supply.{supply-all, supply-place}

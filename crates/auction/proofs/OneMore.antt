@@ -3,8 +3,7 @@
 -- In order: a book with one more offer supplies no less; what holds wherever no less is supplied.
 -- Assumes nothing.
 use mathlib.Core.Path.{◌≡◌, ap}
-use mathlib.Core.Option.{some}
-use Prim.Native.Nat.{ℕ, suc, ◌≤◌, ◌<◌}
+use Prim.Native.Nat.{ℕ, ◌≤◌, ◌<◌}
 use native.Mathlib.Nat.{le_refl, le_trans}
 use lib.Dec.{leb}
 use Rattle.laws.proofs.Cases.{by_order}

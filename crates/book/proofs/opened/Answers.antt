@@ -5,7 +5,6 @@ use mathlib.Core.List.{List}
 use Prim.Native.Nat.{ℕ, ◌≤◌}
 use lib.ListN.{length}
 use native.Mathlib.Omega.{arith}
-use borrow.Author.Rules.{rules}
 use Rattle.values.specs.Refusals.{and_then}
 use Rattle.values.specs.declared.Verdict.TheVariants.{Passed}
 use Rattle.limits.specs.Parameters.{range_fault}

@@ -2,7 +2,6 @@
 -- Assumes nothing.
 use mathlib.Core.Path.{◌≡◌, sym, ap, ◌∙◌}
 use native.Mathlib.Omega.{arith}
-use borrow.Author.Rules.{rules}
 use Rattle.values.specs.declared.Verdict.TheVariants.{Passed}
 use Rattle.values.proofs.Firsts.{and_then-next, and_then-refused}
 use Rattle.limits.specs.Parameters.{range_fault}

@@ -1,7 +1,6 @@
 -- `verdict` is the first fault of a book: the rows are tested only where what comes before them passed.
 -- Assumes nothing.
 use mathlib.Core.Path.{◌≡◌, sym, subst, ◌∙◌}
-use borrow.Author.Rules.{rules}
 use Rattle.values.specs.declared.Verdict.TheVariants.{Passed}
 use Rattle.values.proofs.Firsts.{and_then-next, and_then-refused}
 use Rattle.layout.specs.Form.{edition_of, offer_count}

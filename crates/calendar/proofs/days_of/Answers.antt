@@ -2,7 +2,6 @@
 -- Assumes nothing.
 use mathlib.Core.Path.{sym, ◌∙◌}
 use native.Mathlib.Omega.{arith}
-use borrow.Author.Rules.{rules}
 use Rattle.calendar.proofs.Days.{days-long, days-short}
 use Rattle.calendar.proofs.days_of.Goals as goal
 

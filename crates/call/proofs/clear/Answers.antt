@@ -1,7 +1,6 @@
 -- `clear` answers every string of bytes.
 -- Assumes nothing.
 use mathlib.Core.Path.{refl, sym, ◌∙◌}
-use borrow.Author.Rules.{rules}
 use Rattle.book.proofs.Stages.{before-length}
 use Rattle.call.proofs.Calls.{fault-before, outcome-refused}
 use Rattle.call.proofs.clear.Goals as goal

@@ -2,7 +2,6 @@
 -- Assumes nothing.
 use mathlib.Core.Path.{sym, ◌∙◌}
 use native.Mathlib.Omega.{arith}
-use borrow.Author.Rules.{rules}
 use Rattle.laws.proofs.Filling.{length-zeros}
 use Rattle.book.proofs.Stages.{before-length}
 use Rattle.call.proofs.Calls.{answer-before, outcome-answer}

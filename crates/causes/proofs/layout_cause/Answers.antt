@@ -3,13 +3,12 @@
 -- Assumes nothing.
 use mathlib.Core.Path.{◌≡◌, sym, ap, subst, ◌∙◌}
 use native.Mathlib.Omega.{arith}
-use borrow.Author.Rules.{rules}
 use Rattle.values.specs.declared.Verdict.TheVariants.{Passed}
 use Rattle.values.proofs.Firsts.{and_then-next, and_then-refused}
 use Rattle.sections.specs.Blocks.{block_count, block_of}
 use Rattle.sections.specs.inner.Section.{Fits}
 use Rattle.layout.specs.Form.{length_fault, offer_count}
-use Rattle.layout.proofs.Holding.{LengthHolds, length-holds, CountHolds, head-holds}
+use Rattle.layout.proofs.Holding.{length-holds, CountHolds, head-holds}
 use Rattle.causes.specs.Cause.{head_cause, section_cause, cause_of}
 use Rattle.causes.proofs.Passes.{passes}
 use Rattle.causes.proofs.Agreeing.{head-agree}

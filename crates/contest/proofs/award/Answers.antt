@@ -1,6 +1,5 @@
 -- `award` tells the contest by five keys, one after another, and settles it.
 -- Assumes nothing.
-use borrow.Author.Rules.{rules}
 use Rattle.contest.proofs.Awarding.{awarded}
 use Rattle.contest.proofs.award.Goals as goal
 

@@ -2,13 +2,7 @@
 -- Assumes nothing.
 use mathlib.Core.Path.{◌≡◌}
 use Prim.Native.Nat.{◌≤◌, ◌-◌}
-use native.Mathlib.Nat.{le_refl}
-use native.Mathlib.Omega.{arith}
-use borrow.Author.Rules.{rules}
 use Rattle.laws.specs.Filled.{filled}
-use Rattle.laws.proofs.Fills.{filled_none, filled_more}
-use Rattle.laws.proofs.Filling.{filled-all, length-filling}
-use Rattle.laws.proofs.FilledRows.{filled-past}
 use Rattle.contest.specs.inner.Sieve.{stands_after}
 use Rattle.contest.proofs.hold.Given as goal
 

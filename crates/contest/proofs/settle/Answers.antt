@@ -1,11 +1,7 @@
 -- `settle` puts what each row receives in the place of its standing. The loop's invariant: it stands there in the rows passed.
 -- Assumes nothing.
-use mathlib.Core.Path.{◌≡◌}
-use Prim.Native.Nat.{◌≤◌, ◌-◌}
 use native.Mathlib.Nat.{le_refl}
 use native.Mathlib.Omega.{arith}
-use borrow.Author.Rules.{rules}
-use Rattle.laws.specs.Filled.{filled}
 use Rattle.laws.proofs.Fills.{filled_none, filled_more}
 use Rattle.laws.proofs.Filling.{filled-all, length-filling}
 use Rattle.laws.proofs.FilledRows.{filled-past}

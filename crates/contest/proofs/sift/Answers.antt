@@ -2,7 +2,6 @@
 -- contenders.
 -- Assumes nothing.
 use native.Mathlib.Omega.{arith}
-use borrow.Author.Rules.{rules}
 use Rattle.contest.proofs.Telling.{told-alike, told-key, told-nothing}
 use Rattle.contest.proofs.sift.Goals as goal
 

@@ -1,6 +1,5 @@
 -- `curve::points` meets its contract: each field is what the function that makes it ensures, and such points go right and never up.
 -- Assumes nothing.
-use borrow.Author.Rules.{rules}
 use Rattle.curve.specs.Points.{second_price, quantity_at}
 use Rattle.curve.proofs.Shapes.{curve-made}
 use Rattle.curve.proofs.points.Goals as goal

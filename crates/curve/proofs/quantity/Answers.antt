@@ -4,7 +4,6 @@ use Prim.Native.Nat.{◌*◌, ◌≤◌}
 use mathlib.Core.Path.{refl}
 use native.Mathlib.Nat.{mul-le-mul}
 use native.Mathlib.Omega.{arith}
-use borrow.Author.Rules.{rules}
 use Rattle.laws.specs.Nearest.{nearest}
 use Rattle.curve.proofs.Shapes.{quantity-most}
 use Rattle.curve.proofs.quantity.Goals as goal

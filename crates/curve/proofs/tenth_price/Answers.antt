@@ -2,7 +2,6 @@
 -- Assumes nothing.
 use mathlib.Core.Path.{◌≡◌, ap, ◌∙◌}
 use native.Mathlib.Omega.{arith}
-use borrow.Author.Rules.{rules}
 use Rattle.curve.specs.declared.exact.ExactPrice.{ExactPrice}
 use Rattle.curve.specs.Price.{tenth_price}
 use Rattle.curve.proofs.Prices.{price-most}

@@ -3,7 +3,6 @@
 use mathlib.Core.Path.{◌≡◌, sym, ap, ◌∙◌}
 use Prim.Native.Nat.{ℕ, ◌/◌}
 use native.Mathlib.Omega.{arith}
-use borrow.Author.Rules.{rules}
 use Rattle.parts.specs.inner.Parts.{part_of}
 use Rattle.parts.proofs.RowParts.{part-under, part-over, part_at, part-most}
 use Rattle.parts.proofs.part.Goals as goal

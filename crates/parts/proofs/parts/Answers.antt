@@ -1,14 +1,11 @@
 -- `shares::share::parts` writes each row's part. The loop's invariant: the rows passed hold their parts.
 -- Assumes nothing.
-use mathlib.Core.Path.{◌≡◌}
-use Prim.Native.Nat.{◌-◌, ◌≤◌}
+use Prim.Native.Nat.{◌-◌}
 use native.Mathlib.Nat.{le_antisymm}
 use native.Mathlib.Omega.{arith}
 use borrow.Author.Rules.{rules}
-use Rattle.laws.specs.Filled.{filled}
 use Rattle.laws.proofs.Fills.{filled_none, filled_more}
 use Rattle.laws.proofs.Filling.{length-filling, filled-all}
-use Rattle.parts.specs.inner.Parts.{row_part}
 use Rattle.parts.proofs.parts.Goals as goal
 
 pub loop-row-init : goal.loop-row-init

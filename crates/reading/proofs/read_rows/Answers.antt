@@ -1,10 +1,8 @@
 -- `read_rows` is the rows' first fault: the first by 6, 7 or 10, unless a resource number repeats before it. Where all rows hold there is
 -- none by 6, 7 or 10; and where one does not, they are gone through for it.
 -- Assumes nothing.
-use mathlib.Core.Logic.{⊎_elim}
 use mathlib.Core.List.{List}
 use Prim.Native.Nat.{ℕ}
-use borrow.Author.Rules.{rules}
 use Rattle.laws.proofs.Filling.{length-filling}
 use Rattle.layout.specs.Read.{row_offers}
 use Rattle.layout.proofs.Contained.{length-row_offers}
@@ -35,7 +33,7 @@ found : (c : Joined-told-held) →
 found c =
     let room = c.requires.1 in
     elim c.if-told-held.branch [
-      then-told-held w ↦
+      | then-told-held w ↦
           found_as (found-held _ _ _ _ c.put_rows-told.ensures room c.columns_hold-held.ensures w.if-told-held.true)
           w.resources-is
           w.steps-is

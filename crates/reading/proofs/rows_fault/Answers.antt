@@ -1,6 +1,5 @@
 -- `rows_fault` passes where there are no rows.
 -- Assumes nothing.
-use borrow.Author.Rules.{rules}
 use Rattle.reading.proofs.Tests.{rows_none}
 use Rattle.reading.proofs.rows_fault.Goals as goal
 

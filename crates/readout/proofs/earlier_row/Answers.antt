@@ -7,9 +7,8 @@ use Rattle.layout.specs.Form.{form_fault}
 use Rattle.layout.specs.Read.{contents_of}
 use Rattle.readout.specs.Read.{offers_by}
 use Rattle.readout.proofs.Offered.{there-inside}
-use Rattle.readout.proofs.Earlier.{NoneBefore, none_before, none_more, earlier-absent, earlier-found, earlier-none}
+use Rattle.readout.proofs.Earlier.{none_before, none_more, earlier-absent, earlier-found, earlier-none}
 use native.Mathlib.Omega.{arith}
-use borrow.Author.Rules.{rules}
 use Rattle.readout.proofs.earlier_row.Goals as goal
 use Rattle.readout.proofs.earlier_row.Goals.{Else-rows_of-row}
 

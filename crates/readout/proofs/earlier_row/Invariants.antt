@@ -1,15 +1,10 @@
 -- `earlier_row` looks at one row after another. The loop's invariant: none of those passed has the resource.
 -- Assumes nothing.
-use mathlib.Core.Path.{sym, ◌∙◌}
-use Prim.Native.Nat.{◌-◌, ◌<◌}
-use lib.ListN.{length}
+use Prim.Native.Nat.{◌-◌}
 use Rattle.layout.specs.Form.{form_fault}
 use Rattle.layout.specs.Read.{contents_of}
 use Rattle.readout.specs.Read.{offers_by}
-use Rattle.readout.proofs.Offered.{there-inside}
-use Rattle.readout.proofs.Earlier.{NoneBefore, none_before, none_more, earlier-absent, earlier-found, earlier-none}
-use native.Mathlib.Omega.{arith}
-use borrow.Author.Rules.{rules}
+use Rattle.readout.proofs.Earlier.{NoneBefore}
 use Rattle.readout.proofs.earlier_row.Given as goal
 
 abbrev pub invariant-loop-earlier : goal.invariant-loop-earlier

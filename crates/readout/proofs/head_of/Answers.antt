@@ -9,7 +9,6 @@ use Rattle.layout.specs.Read.{contents_of}
 use Rattle.layout.proofs.Passing.{form-passed-length}
 use Rattle.layout.proofs.Contained.{contents-edition, contents-parameters, contents-count}
 use Rattle.readout.proofs.Offered.{head-unread, head-stated}
-use borrow.Author.Rules.{rules}
 use Rattle.readout.proofs.head_of.Goals as goal
 use Rattle.readout.proofs.head_of.Goals.{After-parameters_in, In_default}
 

@@ -7,7 +7,6 @@ use Rattle.layout.specs.Form.{form_fault}
 use Rattle.layout.specs.Read.{contents_of}
 use Rattle.readout.specs.Read.{offers_by}
 use Rattle.readout.proofs.Offered.{there-inside, there-offer, row-offered, row-unread}
-use borrow.Author.Rules.{rules}
 use Rattle.readout.proofs.offer_of.Goals as goal
 use Rattle.readout.proofs.offer_of.Goals.{Then-row-rows_of}
 

@@ -3,7 +3,6 @@
 use mathlib.Core.Path.{ap}
 use Rattle.values.specs.declared.place.Offer.{Offer}
 use Rattle.readout.proofs.Offered.{there-inside, there-offer}
-use borrow.Author.Rules.{rules}
 use Rattle.readout.proofs.resource_of.Goals as goal
 
 pub row_bytes-requires : goal.row_bytes-requires

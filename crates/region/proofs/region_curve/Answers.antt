@@ -4,7 +4,6 @@ use mathlib.Core.Path.{◌≡◌, sym, ap, ap₂, subst, ◌∙◌}
 use mathlib.Core.Bool.{true, false}
 use Prim.Native.Nat.{ℕ, ◌+◌, ◌≤◌}
 use native.Mathlib.Omega.{arith}
-use borrow.Author.Rules.{rules}
 use Rattle.limits.specs.Parameters.{by_margin}
 use Rattle.curve.specs.declared.Terms.{Terms}
 use Rattle.curve.specs.Points.{curve_of}
@@ -38,18 +37,16 @@ points-requires-else-by_margin c =
     (y2026-usable, subst InRange (sym c.terms_of-terms.ensures) (terms-in-range _ c.requires))
 
 pub returns-then-by_margin : goal.returns-then-by_margin
-returns-then-by_margin c =
-    (
-      c.points.ensures.0
-          ∙ ap₂ (λ (margin : ℕ) (t : Terms). curve_of weights2022 (10000 + margin) t) c.number_held.ensures
-          c.terms_of-terms.ensures
-          ∙ sym (region-early _ (early (goal.at.returns-then-by_margin c).After-number_held)),
-      c.points.ensures.1,
-    )
+returns-then-by_margin c = (
+  c.points.ensures.0
+      ∙ ap₂ (λ (margin : ℕ) (t : Terms). curve_of weights2022 (10000 + margin) t) c.number_held.ensures
+      c.terms_of-terms.ensures
+      ∙ sym (region-early _ (early (goal.at.returns-then-by_margin c).After-number_held)),
+  c.points.ensures.1,
+)
 
 pub returns-else-by_margin : goal.returns-else-by_margin
-returns-else-by_margin c =
-    (
+returns-else-by_margin c = (
   c.points-else-by_margin.ensures.0 ∙ ap (curve_of weights2026 10000) c.terms_of-terms.ensures
       ∙ sym (region-late _ (late (goal.at.returns-else-by_margin c).Else-by_margin)),
   c.points-else-by_margin.ensures.1,

@@ -1,6 +1,5 @@
 -- `terms_of` meets its contract, field by field.
 -- Assumes nothing.
-use borrow.Author.Rules.{rules}
 use Rattle.region.proofs.terms_of.Goals as goal
 
 pub returns : goal.returns

@@ -1,16 +1,12 @@
 -- `first_repeat` is the first row with step 1 whose resource number stands in an earlier row. The rows' invariant: no row passed is
 -- a repeat, as `unrepeated_rows` gives it. The inner loop's: by none of the earlier rows passed is the row one.
 -- Assumes nothing.
-use mathlib.Core.Path.{◌≡◌, ap, ◌∙◌}
-use mathlib.Core.Bool.{true, not, ◌&&◌}
-use Prim.Native.Nat.{◌≤◌, ◌-◌}
+use mathlib.Core.Path.{ap, ◌∙◌}
+use mathlib.Core.Bool.{not}
+use Prim.Native.Nat.{◌-◌}
 use native.Mathlib.Omega.{arith}
-use lib.Dec.{eqb}
-use lib.ListN.{get_or}
-use borrow.Author.Rules.{rules}
 use Rattle.laws.specs.Sum.{every}
 use Rattle.laws.proofs.Everys.{every-zero}
-use Rattle.repeats.specs.Repeats.{no_repeat}
 use Rattle.repeats.proofs.Failing.{every_more}
 use Rattle.repeats.proofs.Fresh.{repeat-searched, repeat-none, repeat-found}
 use Rattle.repeats.proofs.first_repeat.Goals as goal
@@ -25,23 +21,20 @@ pub loop-earlier-preserved : goal.loop-earlier-preserved
 loop-earlier-preserved c = (omega arith, every_more _ _ c.loop-earlier.invariant.1 (ap not c.if-steps-row.false))
 
 pub rows-preserved : goal.rows-preserved
-rows-preserved c =
-    (
+rows-preserved c = (
   omega arith,
   every_more _ _ c.rows.invariant.1
       (repeat-searched _ _ _ (ap (every _) (omega arith) ∙ c.loop-earlier.invariant.1)),
 )
 
 pub returns-after-rows : goal.returns-after-rows
-returns-after-rows c =
-    (
+returns-after-rows c = (
   repeat-none _ _ _ _ c.rows.invariant.1 c.rows.invariant.0 c.rows-test.false,
   c.rows.invariant.0,
 )
 
 pub returns-then-steps-row : goal.returns-then-steps-row
-returns-then-steps-row c =
-    (
+returns-then-steps-row c = (
   repeat-found _ _ _ _ c.rows.invariant.1 _
       c.rows-test.true
       c.loop-earlier-test.true

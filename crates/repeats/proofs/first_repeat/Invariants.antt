@@ -1,18 +1,13 @@
 -- `first_repeat` is the first row with step 1 whose resource number stands in an earlier row. The rows' invariant: no row passed is
 -- a repeat, as `unrepeated_rows` gives it. The inner loop's: by none of the earlier rows passed is the row one.
 -- Assumes nothing.
-use mathlib.Core.Path.{◌≡◌, ap, ◌∙◌}
+use mathlib.Core.Path.{◌≡◌}
 use mathlib.Core.Bool.{true, not, ◌&&◌}
 use Prim.Native.Nat.{◌≤◌, ◌-◌}
-use native.Mathlib.Omega.{arith}
 use lib.Dec.{eqb}
 use lib.ListN.{get_or}
-use borrow.Author.Rules.{rules}
 use Rattle.laws.specs.Sum.{every}
-use Rattle.laws.proofs.Everys.{every-zero}
 use Rattle.repeats.specs.Repeats.{no_repeat}
-use Rattle.repeats.proofs.Failing.{every_more}
-use Rattle.repeats.proofs.Fresh.{repeat-searched, repeat-none, repeat-found}
 use Rattle.repeats.proofs.first_repeat.Given as goal
 
 abbrev pub invariant-loop-earlier : goal.invariant-loop-earlier

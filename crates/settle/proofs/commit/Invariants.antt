@@ -1,16 +1,10 @@
 -- `settle::commit` writes what each row commits. The loop's invariant: the rows passed have what they commit, and their
 -- tenths past what cleared, at most 200,000 each, are summed.
 -- Assumes nothing.
-use mathlib.Core.Path.{◌≡◌, ap, ◌∙◌}
-use Prim.Native.Nat.{ℕ, ◌≤◌, ◌-◌, ◌*◌}
-use native.Mathlib.Omega.{arith}
-use lib.ListN.{get_or}
-use borrow.Author.Rules.{rules}
+use mathlib.Core.Path.{◌≡◌}
+use Prim.Native.Nat.{◌≤◌, ◌-◌, ◌*◌}
 use Rattle.laws.specs.Filled.{filled}
 use Rattle.laws.specs.Sum.{sum_to}
-use Rattle.laws.proofs.Fills.{filled_none, filled_more}
-use Rattle.laws.proofs.Filling.{length-filling, in-filling, filled-all}
-use Rattle.laws.proofs.Loops.{added_none, added_more}
 use Rattle.settle.specs.inner.Rows.{row_commits, row_past}
 use Rattle.settle.proofs.commit.Given as goal
 

@@ -5,7 +5,6 @@ use Prim.Native.Nat.{◌-◌}
 use Rattle.auction.specs.Settlement.{mills}
 use Rattle.settle.specs.inner.Read.{quoted}
 use native.Mathlib.Omega.{arith}
-use borrow.Author.Rules.{rules}
 use Rattle.settle.proofs.make_whole.Goals as goal
 
 pub returns-then-committed-cleared : goal.returns-then-committed-cleared

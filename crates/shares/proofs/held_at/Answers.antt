@@ -3,7 +3,6 @@
 use mathlib.Core.Path.{◌≡◌}
 use Prim.Native.Nat.{ℕ, ◌-◌, ◌≤◌}
 use native.Mathlib.Omega.{arith}
-use borrow.Author.Rules.{rules}
 use Rattle.auction.specs.Offers.{Offers, supply, supply_below, level_sum}
 use Rattle.auction.proofs.Supply.{supply-split}
 use Rattle.shares.proofs.held_at.Goals as goal

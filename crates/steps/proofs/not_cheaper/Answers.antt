@@ -1,6 +1,5 @@
 -- `not_cheaper` compares two prices where both are given.
 -- Assumes nothing.
-use borrow.Author.Rules.{rules}
 use Rattle.steps.proofs.not_cheaper.Goals as goal
 
 pub returns-in-Given-price : goal.returns-in-Given-price

@@ -1,7 +1,6 @@
 -- `step_follows` joins the four tests that its callees and comparisons make.
 -- Assumes nothing.
 use mathlib.Core.Bool.{and_assoc}
-use borrow.Author.Rules.{rules}
 use Rattle.steps.specs.Steps.{step_follows}
 use Rattle.steps.proofs.step_follows.Goals as goal
 

@@ -1,7 +1,6 @@
 -- `and_then` is the first fault of two tests: where the first refused, what it was is known.
 -- Assumes nothing.
 use mathlib.Core.Path.{sym}
-use borrow.Author.Rules.{rules}
 use Rattle.values.proofs.Firsts.{and_then-refused}
 use Rattle.values.proofs.and_then.Goals as goal
 

@@ -1,7 +1,6 @@
 -- `values::value_at` meets its contract: the mark's test picks the case.
 -- Assumes nothing.
 use mathlib.Core.Path.{ap}
-use borrow.Author.Rules.{rules}
 use borrow.Author.Tests.{eq-eqb, ne_eqb}
 use Rattle.values.specs.declared.Value.TheVariants.{Given}
 use Rattle.values.proofs.value_at.Goals as goal

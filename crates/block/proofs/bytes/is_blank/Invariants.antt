@@ -1,16 +1,9 @@
 -- `is_blank` tells whether the n bytes from a place on are all zero. The loop's invariant: no bit is set exactly where the
 -- bytes passed are all zero.
 -- Assumes nothing.
-use mathlib.Core.Path.{◌≡◌, refl, sym, ap, ◌∙◌}
-use mathlib.Core.Bool.{◌&&◌}
-use Prim.Native.Nat.{ℕ, zero, suc, ◌≤◌, ◌-◌}
-use native.Mathlib.Numerals.{add-one}
-use native.Mathlib.Omega.{arith}
-use lib.Bits.{bit_or, or_add_and, and_le_r}
-use lib.Dec.{eqb, eqb-suc-zero}
-use borrow.Author.Rules.{rules}
-use borrow.Author.Tests.{ne_eqb}
-use Rattle.laws.proofs.Everys.{every-zero, every-suc}
+use mathlib.Core.Path.{◌≡◌}
+use Prim.Native.Nat.{◌≤◌, ◌-◌}
+use lib.Dec.{eqb}
 use Rattle.block.specs.Bytes.{blank}
 use Rattle.block.proofs.bytes.is_blank.Given as goal
 

@@ -1,7 +1,6 @@
 -- `opens_with` tells whether the four letters are the first four bytes. It leaves at the first that differs, and each way
 -- out rewrites by the tests that led there.
 -- Assumes nothing.
-use borrow.Author.Rules.{rules}
 use borrow.Author.Tests.{eq-eqb, ne_eqb}
 use Rattle.block.specs.Bytes.{opens_with}
 use Rattle.block.proofs.bytes.opens_with.Goals as goal

@@ -1,7 +1,6 @@
 -- `check_holds` tells whether the last four bytes hold both sums: it compares what its callees ensure.
 -- Assumes nothing.
 use mathlib.Core.Path.{◌∙◌}
-use borrow.Author.Rules.{rules}
 use borrow.Author.Tests.{eq-eqb, ne_eqb}
 use Rattle.block.specs.Check.{check_holds}
 use Rattle.block.proofs.Steps.{block_sum-first, block_total-second}

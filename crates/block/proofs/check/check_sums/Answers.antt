@@ -1,7 +1,6 @@
 -- `check_sums` puts the columns together: what each callee ensures, by the laws of Together.
 -- Assumes nothing.
 use native.Mathlib.Nat.{le_refl}
-use borrow.Author.Rules.{rules}
 use Rattle.laws.proofs.Filling.{zeros}
 use Rattle.block.proofs.Together.{doubled-four, sum-together, total-together}
 use Rattle.block.proofs.check.check_sums.Goals as goal

@@ -1,11 +1,10 @@
 -- `over_columns` runs over the sums of the columns. The loop's invariant: what the board holds after so many steps.
 -- Assumes nothing.
 use mathlib.Core.Path.{◌≡◌, ap}
-use Prim.Native.Nat.{ℕ, suc, ◌≤◌, ◌-◌}
+use Prim.Native.Nat.{ℕ, suc, ◌-◌}
 use native.Mathlib.Omega.{arith}
 use lib.ListN.{get_or}
-use borrow.Author.Rules.{rules}
-use Rattle.block.proofs.Boards.{Board, board-none, board-more, board-sum, board-total}
+use Rattle.block.proofs.Boards.{board-none, board-more, board-sum, board-total}
 use Rattle.block.proofs.columns.over_columns.Goals as goal
 
 pub loop-i-init : goal.loop-i-init

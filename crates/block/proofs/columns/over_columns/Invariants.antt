@@ -1,11 +1,8 @@
 -- `over_columns` runs over the sums of the columns. The loop's invariant: what the board holds after so many steps.
 -- Assumes nothing.
-use mathlib.Core.Path.{◌≡◌, ap}
-use Prim.Native.Nat.{ℕ, suc, ◌≤◌, ◌-◌}
-use native.Mathlib.Omega.{arith}
+use Prim.Native.Nat.{◌≤◌, ◌-◌}
 use lib.ListN.{get_or}
-use borrow.Author.Rules.{rules}
-use Rattle.block.proofs.Boards.{Board, board-none, board-more, board-sum, board-total}
+use Rattle.block.proofs.Boards.{Board}
 use Rattle.block.proofs.columns.over_columns.Given as goal
 
 abbrev pub invariant-loop-i : goal.invariant-loop-i

@@ -1,12 +1,9 @@
 -- `over_rows` runs over one column. The loop's invariant: what the board holds after so many steps, and the place of the row.
 -- Assumes nothing.
-use mathlib.Core.Path.{◌≡◌, ap, ◌∙◌}
-use Prim.Native.Nat.{suc, ◌≤◌, ◌+◌, ◌*◌, ◌-◌}
-use native.Mathlib.Omega.{arith}
-use borrow.Author.Rules.{rules}
-use Rattle.block.specs.Bytes.{byte}
+use mathlib.Core.Path.{◌≡◌}
+use Prim.Native.Nat.{◌≤◌, ◌+◌, ◌*◌, ◌-◌}
 use Rattle.block.specs.inner.Columns.{in_column}
-use Rattle.block.proofs.Boards.{Board, board-none, board-more, board-sum, board-total}
+use Rattle.block.proofs.Boards.{Board}
 use Rattle.block.proofs.columns.over_rows.Given as goal
 
 abbrev pub invariant-loop-passed : goal.invariant-loop-passed

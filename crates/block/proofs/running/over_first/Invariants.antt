@@ -1,11 +1,8 @@
 -- `over_first` goes on over bytes 11 to 0. The loop's invariant: what the board holds after so many steps from where it stood.
 -- Assumes nothing.
-use mathlib.Core.Path.{◌≡◌, ap, ◌∙◌}
-use Prim.Native.Nat.{suc, ◌≤◌, ◌-◌}
-use native.Mathlib.Omega.{arith}
-use borrow.Author.Rules.{rules}
+use Prim.Native.Nat.{◌≤◌, ◌-◌}
 use Rattle.block.specs.Bytes.{byte}
-use Rattle.block.proofs.Boards.{Board, board-none, board-more}
+use Rattle.block.proofs.Boards.{Board}
 use Rattle.block.proofs.running.over_first.Given as goal
 
 abbrev pub invariant-loop-i : goal.invariant-loop-i

@@ -1,7 +1,6 @@
 -- `by_fields` is the answer that it is given.
 -- Assumes nothing.
 use mathlib.Core.Path.{sym}
-use borrow.Author.Rules.{rules}
 use Rattle.call.proofs.measured.by_fields.Goals as goal
 
 pub returns-in-Cleared : goal.returns-in-Cleared

@@ -1,7 +1,6 @@
 -- `clear_measured` hands on the first fault before the rows, and else what the rows clear.
 -- Assumes nothing.
 use mathlib.Core.Path.{sym, ◌∙◌}
-use borrow.Author.Rules.{rules}
 use Rattle.book.specs.inner.Opening.{Opened}
 use Rattle.call.proofs.Calls.{fault-before, outcome-refused}
 use Rattle.call.proofs.measured.clear_measured.Goals as goal

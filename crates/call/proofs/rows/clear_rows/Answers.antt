@@ -3,7 +3,6 @@
 use mathlib.Core.Path.{◌≡◌, sym, ◌∙◌}
 use native.Mathlib.Omega.{arith}
 use lib.ListN.{length}
-use borrow.Author.Rules.{rules}
 use Rattle.values.specs.declared.Verdict.TheVariants.{Passed}
 use Rattle.layout.specs.Read.{contents_of}
 use Rattle.columns.specs.inner.Columns.{Columns, columns_of}

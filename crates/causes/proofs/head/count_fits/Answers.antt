@@ -1,6 +1,5 @@
 -- `count_fits` leaves where there are too many offers, and else compares the number of blocks.
 -- Assumes nothing.
-use borrow.Author.Rules.{rules}
 use Rattle.laws.proofs.Ways.{ways, most-held}
 use Rattle.layout.specs.Layout.{count_fits}
 use Rattle.causes.proofs.head.count_fits.Goals as goal

@@ -1,6 +1,5 @@
 -- `head_cause` joins the causes of block 0 in their order.
 -- Assumes nothing.
-use borrow.Author.Rules.{rules}
 use Rattle.causes.specs.Cause.{head_cause}
 use Rattle.causes.proofs.head.head_cause.Goals as goal
 

@@ -1,6 +1,5 @@
 -- `head_marks_cause` joins the causes of the marks and of the five values.
 -- Assumes nothing.
-use borrow.Author.Rules.{rules}
 use Rattle.values.specs.Values.{marked}
 use Rattle.causes.specs.Cause.{head_marks_cause}
 use Rattle.causes.proofs.head.head_marks_cause.Goals as goal

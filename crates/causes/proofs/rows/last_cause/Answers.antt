@@ -1,6 +1,5 @@
 -- `last_cause` joins the causes of the last four bytes in their order.
 -- Assumes nothing.
-use borrow.Author.Rules.{rules}
 use Rattle.causes.specs.Cause.{last_cause}
 use Rattle.causes.proofs.rows.last_cause.Goals as goal
 

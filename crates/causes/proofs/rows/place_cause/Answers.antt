@@ -1,7 +1,6 @@
 -- `place_cause` tells of a used place or of an unused one.
 -- Assumes nothing.
 use mathlib.Core.Path.{sym, ◌∙◌}
-use borrow.Author.Rules.{rules}
 use Rattle.laws.proofs.Cases.{cond-true, cond-false}
 use Rattle.causes.specs.Cause.{place_cause}
 use Rattle.causes.proofs.rows.place_cause.Goals as goal

@@ -1,13 +1,12 @@
 -- `places_cause` finds the first place that fails. The loop's invariant: what was found among the places passed.
 -- Assumes nothing.
-use mathlib.Core.Path.{◌≡◌, sym, ap, ◌∙◌}
-use Prim.Native.Nat.{◌+◌, ◌*◌, ◌≤◌, ◌-◌}
+use mathlib.Core.Path.{sym, ap, ◌∙◌}
+use Prim.Native.Nat.{◌-◌}
 use native.Mathlib.Omega.{arith}
-use lib.Dec.{ltb}
 use borrow.Author.Rules.{rules}
 use Rattle.values.proofs.Firsts.{first-zero}
 use Rattle.values.specs.Refusals.{first}
-use Rattle.causes.specs.Cause.{place_cause, places_cause}
+use Rattle.causes.specs.Cause.{places_cause}
 use Rattle.causes.proofs.Passes.{first_next}
 use Rattle.causes.proofs.rows.places_cause.Goals as goal
 

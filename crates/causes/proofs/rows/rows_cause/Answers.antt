@@ -1,6 +1,5 @@
 -- `rows_cause` joins the causes of a block of rows in their order.
 -- Assumes nothing.
-use borrow.Author.Rules.{rules}
 use Rattle.causes.specs.Cause.{rows_cause}
 use Rattle.causes.proofs.rows.rows_cause.Goals as goal
 

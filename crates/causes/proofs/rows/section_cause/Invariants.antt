@@ -1,14 +1,9 @@
 -- `section_cause` finds the first block that fails. The loop's invariant: what was found among the blocks passed.
 -- Assumes nothing.
-use mathlib.Core.Path.{◌≡◌, sym, ap, ◌∙◌}
+use mathlib.Core.Path.{◌≡◌}
 use Prim.Native.Nat.{◌≤◌, ◌-◌}
-use native.Mathlib.Omega.{arith}
-use borrow.Author.Rules.{rules}
-use Rattle.values.proofs.Firsts.{first-zero}
 use Rattle.values.specs.Refusals.{first}
-use Rattle.sections.proofs.Parts.{block-part}
-use Rattle.causes.specs.Cause.{block_cause, section_cause}
-use Rattle.causes.proofs.Passes.{first_next}
+use Rattle.causes.specs.Cause.{block_cause}
 use Rattle.causes.proofs.rows.section_cause.Given as goal
 
 abbrev pub invariant-loop-j : goal.invariant-loop-j

@@ -1,6 +1,5 @@
 -- `used_cause` joins the causes of the last bytes and of both values.
 -- Assumes nothing.
-use borrow.Author.Rules.{rules}
 use Rattle.values.specs.Values.{marked}
 use Rattle.causes.specs.Cause.{used_cause}
 use Rattle.causes.proofs.rows.used_cause.Goals as goal

@@ -1,6 +1,5 @@
 -- `follow_cause` leaves at the first rule that is broken.
 -- Assumes nothing.
-use borrow.Author.Rules.{rules}
 use Rattle.causes.specs.Rules.{follow_cause}
 use Rattle.causes.proofs.Keeping.{kept}
 use Rattle.causes.proofs.rules.follow_cause.Goals as goal

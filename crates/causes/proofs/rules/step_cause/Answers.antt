@@ -1,6 +1,5 @@
 -- `step_cause` leaves at step 1 and at row 0, and else hands on what is broken past the row before.
 -- Assumes nothing.
-use borrow.Author.Rules.{rules}
 use Rattle.causes.specs.Rules.{step_cause}
 use Rattle.causes.proofs.Keeping.{kept}
 use Rattle.causes.proofs.rules.step_cause.Goals as goal

@@ -1,6 +1,5 @@
 -- `absent_cause` tells of the test that `absent_holds` makes.
 -- Assumes nothing.
-use borrow.Author.Rules.{rules}
 use Rattle.causes.proofs.tests.absent_cause.Goals as goal
 
 pub returns : goal.returns

@@ -1,14 +1,12 @@
 -- `letters_cause` finds the first letter that differs. The loop's invariant: what was found among the letters passed.
 -- Assumes nothing.
-use mathlib.Core.Path.{◌≡◌, sym, ap, ◌∙◌}
-use Prim.Native.Nat.{◌≤◌, ◌-◌}
+use mathlib.Core.Path.{sym, ap, ◌∙◌}
+use Prim.Native.Nat.{◌-◌}
 use native.Mathlib.Omega.{arith}
-use lib.Dec.{eqb}
 use borrow.Author.Rules.{rules}
-use Rattle.block.specs.Bytes.{byte}
 use Rattle.values.proofs.Firsts.{first-zero}
-use Rattle.values.specs.Refusals.{unless, first}
-use Rattle.causes.specs.Cause.{wrong_letter, letters_cause}
+use Rattle.values.specs.Refusals.{first}
+use Rattle.causes.specs.Cause.{letters_cause}
 use Rattle.causes.proofs.Passes.{first_next}
 use Rattle.causes.proofs.tests.letters_cause.Goals as goal
 

@@ -1,6 +1,5 @@
 -- `told` passes where the test holds.
 -- Assumes nothing.
-use borrow.Author.Rules.{rules}
 use Rattle.causes.proofs.tests.told.Goals as goal
 
 pub returns-else-holds : goal.returns-else-holds

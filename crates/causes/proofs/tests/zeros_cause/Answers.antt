@@ -1,14 +1,12 @@
 -- `zeros_cause` finds the first byte that is not zero. The loop's invariant: what was found among the bytes passed.
 -- Assumes nothing.
-use mathlib.Core.Path.{◌≡◌, sym, ap, ◌∙◌}
-use Prim.Native.Nat.{◌+◌, ◌≤◌, ◌-◌}
+use mathlib.Core.Path.{sym, ap, ◌∙◌}
+use Prim.Native.Nat.{◌-◌}
 use native.Mathlib.Omega.{arith}
-use lib.Dec.{eqb}
 use borrow.Author.Rules.{rules}
-use Rattle.block.specs.Bytes.{byte}
 use Rattle.values.proofs.Firsts.{first-zero}
-use Rattle.values.specs.Refusals.{unless, first}
-use Rattle.causes.specs.Cause.{not_zero, zeros_cause}
+use Rattle.values.specs.Refusals.{first}
+use Rattle.causes.specs.Cause.{zeros_cause}
 use Rattle.causes.proofs.Passes.{first_next}
 use Rattle.causes.proofs.tests.zeros_cause.Goals as goal
 

@@ -1,13 +1,10 @@
 -- `under` counts the contenders under a limit. The loop's invariant: those of the rows passed.
 -- Assumes nothing.
-use mathlib.Core.Path.{◌≡◌, ap, ◌∙◌}
-use Prim.Native.Nat.{◌≤◌, ◌-◌}
+use mathlib.Core.Path.{ap, ◌∙◌}
 use native.Mathlib.Omega.{arith}
-use borrow.Author.Rules.{rules}
 use Rattle.laws.specs.Sum.{sum_where, count_where}
 use Rattle.laws.proofs.Loops.{added_none, added_more}
-use Rattle.contest.specs.inner.Contest.{contenders}
-use Rattle.contest.specs.inner.Sieve.{count_under, key_at}
+use Rattle.contest.specs.inner.Sieve.{count_under}
 use Rattle.contest.proofs.count.under.Goals as goal
 
 pub loop-i-init : goal.loop-i-init

@@ -1,11 +1,7 @@
 -- `under` counts the contenders under a limit. The loop's invariant: those of the rows passed.
 -- Assumes nothing.
-use mathlib.Core.Path.{◌≡◌, ap, ◌∙◌}
+use mathlib.Core.Path.{◌≡◌}
 use Prim.Native.Nat.{◌≤◌, ◌-◌}
-use native.Mathlib.Omega.{arith}
-use borrow.Author.Rules.{rules}
-use Rattle.laws.specs.Sum.{sum_where, count_where}
-use Rattle.laws.proofs.Loops.{added_none, added_more}
 use Rattle.contest.specs.inner.Contest.{contenders}
 use Rattle.contest.specs.inner.Sieve.{count_under, key_at}
 use Rattle.contest.proofs.count.under.Given as goal

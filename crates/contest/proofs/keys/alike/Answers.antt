@@ -1,13 +1,9 @@
 -- `alike` finds the keys alike only where they are. The loop's invariant: where no other key was counted, the keys passed are
 -- the first.
 -- Assumes nothing.
-use mathlib.Core.Path.{◌≡◌}
 use mathlib.Core.Bool.{false≢true}
-use Prim.Native.Nat.{ℕ, ◌≤◌, ◌<◌, ◌-◌}
 use native.Mathlib.Omega.{arith}
-use lib.ListN.{get_or}
 use borrow.Author.Count.{below_none, below_more}
-use borrow.Author.Rules.{rules}
 use borrow.Author.Tests.{eqb-true}
 use Rattle.contest.proofs.keys.alike.Goals as goal
 

@@ -1,9 +1,6 @@
 -- `highest_to` finds the last key. The loop's invariant: it is the last of the rows passed.
 -- Assumes nothing.
 use Prim.Native.Nat.{◌≤◌, ◌-◌}
-use native.Mathlib.Omega.{arith}
-use borrow.Author.Rules.{rules}
-use borrow.Author.Count.{below_none, below_more}
 use Rattle.contest.specs.inner.Sieve.{key_at}
 use Rattle.contest.specs.inner.Nearest.{HighestTo}
 use Rattle.contest.proofs.keys.highest_to.Given as goal

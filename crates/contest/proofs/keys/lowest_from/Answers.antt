@@ -1,11 +1,7 @@
 -- `lowest_from` finds the next key. The loop's invariant: it is the next of the rows passed.
 -- Assumes nothing.
-use Prim.Native.Nat.{◌≤◌, ◌-◌}
 use native.Mathlib.Omega.{arith}
-use borrow.Author.Rules.{rules}
 use borrow.Author.Count.{below_none, below_more}
-use Rattle.contest.specs.inner.Sieve.{key_at}
-use Rattle.contest.specs.inner.Nearest.{LowestFrom}
 use Rattle.contest.proofs.keys.lowest_from.Goals as goal
 
 pub loop-i-init : goal.loop-i-init

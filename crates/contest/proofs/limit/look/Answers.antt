@@ -1,6 +1,5 @@
 -- `look` counts the contenders under a number, which takes the place of one of the two.
 -- Assumes nothing.
-use borrow.Author.Rules.{rules}
 use Rattle.contest.proofs.Closing.{looked-low, looked-high}
 use Rattle.contest.proofs.limit.look.Goals as goal
 

@@ -2,7 +2,6 @@
 -- Assumes nothing.
 use Prim.Native.Nat.{◌+◌}
 use native.Mathlib.Omega.{arith}
-use borrow.Author.Rules.{rules}
 use Rattle.contest.specs.inner.Contest.{contenders}
 use Rattle.contest.specs.inner.Sieve.{key_at}
 use Rattle.contest.specs.inner.Search.{Between}

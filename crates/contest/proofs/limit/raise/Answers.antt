@@ -1,7 +1,6 @@
 -- `raise` moves the first number up to the next key, and looks just over it.
 -- Assumes nothing.
 use native.Mathlib.Omega.{arith}
-use borrow.Author.Rules.{rules}
 use Rattle.contest.specs.inner.Contest.{contenders}
 use Rattle.contest.specs.inner.Sieve.{key_at}
 use Rattle.contest.specs.inner.Search.{Between}

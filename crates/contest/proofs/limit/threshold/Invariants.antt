@@ -2,14 +2,9 @@
 -- numbers, and more under the second.
 -- Assumes nothing.
 use Prim.Native.Nat.{◌-◌}
-use native.Mathlib.Omega.{arith}
-use borrow.Author.Rules.{rules}
-use borrow.Author.Tests.{ltb-true, ltb-false}
 use Rattle.contest.specs.inner.Contest.{contenders}
 use Rattle.contest.specs.inner.Sieve.{key_at}
 use Rattle.contest.specs.inner.Search.{Between}
-use Rattle.contest.proofs.Parting.{parts-top}
-use Rattle.contest.proofs.Closing.{begun, found-exact, found-next}
 use Rattle.contest.proofs.limit.threshold.Given as goal
 
 abbrev pub invariant-loop-b : goal.invariant-loop-b

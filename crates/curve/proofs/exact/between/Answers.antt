@@ -5,7 +5,6 @@ use Prim.Native.Nat.{◌+◌, ◌-◌, ◌*◌, ◌≤◌}
 use mathlib.Core.Path.{refl}
 use native.Mathlib.Nat.{le_trans, mul-le-mul}
 use native.Mathlib.Omega.{arith}
-use borrow.Author.Rules.{rules}
 use Rattle.curve.specs.Price.{line}
 use Rattle.curve.specs.Exact.{exact_line}
 use Rattle.curve.proofs.Lines.{dividend-most, line-most}

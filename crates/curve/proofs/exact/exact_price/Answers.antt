@@ -2,7 +2,6 @@
 -- Assumes nothing.
 use mathlib.Core.Path.{sym, ◌∙◌}
 use native.Mathlib.Omega.{arith}
-use borrow.Author.Rules.{rules}
 use Rattle.curve.proofs.Exacts.{exact-level, exact-first, exact-second}
 use Rattle.curve.proofs.exact.exact_price.Goals as goal
 

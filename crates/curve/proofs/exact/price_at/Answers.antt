@@ -1,7 +1,6 @@
 -- `curve::exact::price_at` meets its contract: the price up to Q3, and that there is none past it.
 -- Assumes nothing.
 use mathlib.Core.Path.{sym}
-use borrow.Author.Rules.{rules}
 use Rattle.curve.proofs.Exacts.{exact-within, no-exact-past}
 use Rattle.curve.proofs.exact.price_at.Goals as goal
 

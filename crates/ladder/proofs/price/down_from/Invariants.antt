@@ -1,11 +1,8 @@
 -- `down_from` goes down. The loop's invariant: what is left to go from here leads to the same price.
 -- Assumes nothing.
-use mathlib.Core.Path.{◌≡◌, refl, sym, ap, ◌∙◌}
+use mathlib.Core.Path.{◌≡◌}
 use Rattle.ladder.specs.Prices.{down}
-use Rattle.ladder.specs.inner.Found.{found_in, price_at}
-use Rattle.ladder.proofs.Climbs.{down-all, down-one, down_ends}
-use native.Mathlib.Omega.{arith}
-use borrow.Author.Rules.{rules}
+use Rattle.ladder.specs.inner.Found.{price_at}
 use Rattle.ladder.proofs.price.down_from.Given as goal
 
 abbrev pub invariant-loop-left : goal.invariant-loop-left

@@ -3,7 +3,6 @@
 use mathlib.Core.Path.{refl}
 use Rattle.ladder.proofs.Climbs.{higher-kept, higher-taken}
 use native.Mathlib.Omega.{arith}
-use borrow.Author.Rules.{rules}
 use Rattle.ladder.proofs.price.higher.Goals as goal
 
 pub returns-then-limit-price : goal.returns-then-limit-price

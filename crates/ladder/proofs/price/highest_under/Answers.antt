@@ -1,13 +1,10 @@
 -- `highest_under` is the highest price. The loop's invariant: the highest of the rows passed.
 -- Assumes nothing.
-use mathlib.Core.Path.{◌≡◌, ap, ◌∙◌}
-use Prim.Native.Nat.{◌≤◌, ◌-◌}
-use lib.Dec.{ltb}
+use mathlib.Core.Path.{ap, ◌∙◌}
+use Prim.Native.Nat.{◌-◌}
 use Rattle.ladder.specs.Prices.{most_where, highest_under}
-use Rattle.ladder.specs.inner.Found.{found_in, price_at}
 use Rattle.ladder.proofs.Climbs.{most-none, most-more}
 use native.Mathlib.Omega.{arith}
-use borrow.Author.Rules.{rules}
 use Rattle.ladder.proofs.price.highest_under.Goals as goal
 
 pub loop-row-init : goal.loop-row-init

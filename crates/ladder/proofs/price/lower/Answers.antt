@@ -3,7 +3,6 @@
 use mathlib.Core.Path.{refl}
 use Rattle.ladder.proofs.Climbs.{lower-kept, lower-taken}
 use native.Mathlib.Omega.{arith}
-use borrow.Author.Rules.{rules}
 use Rattle.ladder.proofs.price.lower.Goals as goal
 
 pub returns-then-price-from : goal.returns-then-price-from

@@ -1,14 +1,11 @@
 -- `lowest_from` is the lowest price. The loop's invariant: the lowest of the rows passed.
 -- Assumes nothing.
-use mathlib.Core.Path.{◌≡◌, ap, ◌∙◌}
-use Prim.Native.Nat.{◌≤◌, ◌-◌}
-use lib.Dec.{leb}
+use mathlib.Core.Path.{ap, ◌∙◌}
+use Prim.Native.Nat.{◌-◌}
 use Rattle.laws.specs.Largest.{least_where}
 use Rattle.ladder.specs.Prices.{lowest_from}
-use Rattle.ladder.specs.inner.Found.{found_in, price_at}
 use Rattle.ladder.proofs.Climbs.{least-none, least_more}
 use native.Mathlib.Omega.{arith}
-use borrow.Author.Rules.{rules}
 use Rattle.ladder.proofs.price.lowest_from.Goals as goal
 
 pub loop-row-init : goal.loop-row-init

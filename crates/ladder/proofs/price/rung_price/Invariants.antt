@@ -1,11 +1,8 @@
 -- `rung_price` goes up. The loop's invariant: what is left to go from here leads to the same price.
 -- Assumes nothing.
-use mathlib.Core.Path.{◌≡◌, refl, sym, ap, ◌∙◌}
+use mathlib.Core.Path.{◌≡◌}
 use Rattle.ladder.specs.Prices.{rung_price}
-use Rattle.ladder.specs.inner.Found.{found_in, price_at}
-use Rattle.ladder.proofs.Climbs.{up-here, up_one, up_ends, found-cheap}
-use native.Mathlib.Omega.{arith}
-use borrow.Author.Rules.{rules}
+use Rattle.ladder.specs.inner.Found.{price_at}
 use Rattle.ladder.proofs.price.rung_price.Given as goal
 
 abbrev pub invariant-loop-left : goal.invariant-loop-left

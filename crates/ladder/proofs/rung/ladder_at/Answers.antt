@@ -1,9 +1,7 @@
 -- `ladder_at` starts six levels down.
 -- Assumes nothing.
 use native.Mathlib.Omega.{arith}
-use borrow.Author.Rules.{rules}
 use Rattle.ladder.proofs.Rungs.{stop-cheap, ladder-is}
-use borrow.Author.Rules.{rules}
 use Rattle.ladder.proofs.rung.ladder_at.Goals as goal
 
 pub overflow_add-stop : goal.overflow_add-stop

@@ -1,10 +1,8 @@
 -- `rung_at` goes by whether there is such a price.
 -- Assumes nothing.
 use mathlib.Core.Path.{sym, ap, ◌∙◌}
-use borrow.Author.Rules.{rules}
 use Rattle.ladder.specs.inner.Found.{found_in}
 use Rattle.ladder.proofs.Rungs.{rung-reached, rung-none}
-use borrow.Author.Rules.{rules}
 use Rattle.ladder.proofs.rung.rung_at.Goals as goal
 
 pub returns-in-At : goal.returns-in-At

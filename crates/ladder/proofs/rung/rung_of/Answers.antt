@@ -1,8 +1,6 @@
 -- `rung_of` is the level at a price.
 -- Assumes nothing.
-use borrow.Author.Rules.{rules}
 use Rattle.ladder.proofs.Rungs.{rung-is}
-use borrow.Author.Rules.{rules}
 use Rattle.ladder.proofs.rung.rung_of.Goals as goal
 
 pub returns : goal.returns

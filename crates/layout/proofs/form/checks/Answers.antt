@@ -2,14 +2,11 @@
 -- Assumes nothing.
 use mathlib.Core.Bool.{not}
 use mathlib.Core.Path.{◌≡◌, sym, ap, ◌∙◌}
-use mathlib.Core.List.{List}
-use Prim.Native.Nat.{ℕ, ◌≤◌, ◌-◌}
+use Prim.Native.Nat.{◌-◌}
 use native.Mathlib.Omega.{arith}
 use borrow.Author.Rules.{rules}
 use Rattle.block.specs.Check.{check_holds}
-use Rattle.values.specs.Refusals.{first, unless, wrong_check}
-use Rattle.values.specs.declared.Verdict.{Verdict}
-use Rattle.values.specs.declared.Verdict.TheVariants.{Passed}
+use Rattle.values.specs.Refusals.{first}
 use Rattle.values.proofs.Firsts.{unless-held, unless-failed, first-zero, first_on, first-refused}
 use Rattle.sections.specs.Blocks.{block_of}
 use Rattle.sections.proofs.Parts.{block-part}
@@ -35,8 +32,7 @@ returns-then-not-check_holds c =
     (unless-failed _ (as-block (goal.at.returns-then-not-check_holds c).After-check_holds) (ap not c.if-not-check_holds.true)))
 
 pub loop-k-preserved : goal.loop-k-preserved
-loop-k-preserved c =
-    (
+loop-k-preserved c = (
   search rules,
   first_on _ _
       c.loop-k.invariant.1

@@ -1,18 +1,13 @@
 -- `checks` finds the first block whose check is wrong. The loop's invariant: the blocks passed had right ones.
 -- Assumes nothing.
-use mathlib.Core.Path.{◌≡◌, sym, ap, ◌∙◌}
+use mathlib.Core.Path.{◌≡◌}
 use mathlib.Core.List.{List}
 use Prim.Native.Nat.{ℕ, ◌≤◌, ◌-◌}
-use native.Mathlib.Omega.{arith}
-use borrow.Author.Rules.{rules}
 use Rattle.block.specs.Check.{check_holds}
 use Rattle.values.specs.Refusals.{first, unless, wrong_check}
 use Rattle.values.specs.declared.Verdict.{Verdict}
 use Rattle.values.specs.declared.Verdict.TheVariants.{Passed}
-use Rattle.values.proofs.Firsts.{unless-held, unless-failed, first-zero, first_on, first-refused}
 use Rattle.sections.specs.Blocks.{block_of}
-use Rattle.sections.proofs.Parts.{block-part}
-use Rattle.layout.specs.Form.{check_fault}
 use Rattle.layout.proofs.form.checks.Given as goal
 
 abbrev pub check_at : List ℕ → ℕ → Verdict

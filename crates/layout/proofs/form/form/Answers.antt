@@ -1,7 +1,6 @@
 -- `form` hands on the fault of the length, and else the first of the blocks.
 -- Assumes nothing.
 use mathlib.Core.Path.{◌≡◌, sym, ◌∙◌}
-use borrow.Author.Rules.{rules}
 use Rattle.values.specs.declared.Verdict.TheVariants.{Passed}
 use Rattle.values.proofs.Firsts.{and_then-next, and_then-refused}
 use Rattle.layout.specs.Form.{length_fault, form_fault}

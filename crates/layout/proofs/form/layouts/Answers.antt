@@ -3,8 +3,6 @@
 use mathlib.Core.Bool.{not}
 use mathlib.Core.Path.{◌≡◌, sym, ap, subst, ◌∙◌}
 use native.Mathlib.Omega.{arith}
-use borrow.Author.Rules.{rules}
-use borrow.Author.Tests.{not-false}
 use Rattle.values.proofs.Firsts.{unless-held, unless-failed, and_then-next, and_then-refused}
 use Rattle.sections.specs.Blocks.{block_count, block_of}
 use Rattle.sections.specs.Section.{section_fault}

@@ -1,7 +1,6 @@
 -- `edition_holds` tests the edition that is read.
 -- Assumes nothing.
 use mathlib.Core.Path.{ap, ◌∙◌}
-use borrow.Author.Rules.{rules}
 use Rattle.layout.specs.Layout.{edition_known}
 use Rattle.layout.proofs.head.edition_holds.Goals as goal
 

@@ -1,6 +1,5 @@
 -- `head_holds` meets its contract: it leaves at the first test that fails.
 -- Assumes nothing.
-use borrow.Author.Rules.{rules}
 use Rattle.laws.proofs.Ways.{ways}
 use Rattle.layout.specs.Layout.{head_holds}
 use Rattle.layout.proofs.head.head_holds.Goals as goal

@@ -1,6 +1,5 @@
 -- `offers_section` reads the number of offers and the edition in block 0; the rest of the section is fixed.
 -- Assumes nothing.
-use borrow.Author.Rules.{rules}
 use Rattle.sections.specs.Blocks.{block_of}
 use Rattle.layout.proofs.offers.offers_section.Goals as goal
 

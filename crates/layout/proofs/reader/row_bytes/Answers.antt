@@ -2,7 +2,6 @@
 -- Assumes nothing.
 use mathlib.Core.Path.{ap, ◌∙◌}
 use lib.ListN.{length}
-use borrow.Author.Rules.{rules}
 use Rattle.sections.proofs.Parts.{row-part, row-length}
 use Rattle.layout.proofs.reader.row_bytes.Goals as goal
 

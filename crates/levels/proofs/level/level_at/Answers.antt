@@ -1,7 +1,6 @@
 -- `levels::level::level_at` meets its contract: the total is the one that the curve reaches.
 -- Assumes nothing.
 use mathlib.Core.Path.{refl}
-use borrow.Author.Rules.{rules}
 use Rattle.levels.proofs.level.level_at.Goals as goal
 
 pub returns : goal.returns

@@ -2,7 +2,6 @@
 -- Assumes nothing.
 use mathlib.Core.Path.{ap, sym, ◌∙◌}
 use native.Mathlib.Omega.{arith}
-use borrow.Author.Rules.{rules}
 use Rattle.auction.specs.Offers.{supply_below}
 use Rattle.auction.proofs.Supply.{supply_below-zero}
 use Rattle.levels.proofs.Stops.{below_less}

@@ -1,11 +1,7 @@
 -- `levels::reach::reached` is the largest quantity at which the curve asks a price or more.
 -- Assumes nothing.
-use Prim.Native.Nat.{◌-◌}
-use Rattle.curve.specs.Price.{demand_of}
-use Rattle.levels.specs.inner.Reach.{Reaches}
 use Rattle.levels.proofs.Reaching.{reaches-under, reaches-met}
 use native.Mathlib.Omega.{arith}
-use borrow.Author.Rules.{rules}
 use Rattle.levels.proofs.reach.reached.Goals as goal
 
 pub loop-low-preserved : goal.loop-low-preserved

@@ -3,9 +3,6 @@
 use Prim.Native.Nat.{◌-◌}
 use Rattle.curve.specs.Price.{demand_of}
 use Rattle.levels.specs.inner.Reach.{Reaches}
-use Rattle.levels.proofs.Reaching.{reaches-under, reaches-met}
-use native.Mathlib.Omega.{arith}
-use borrow.Author.Rules.{rules}
 use Rattle.levels.proofs.reach.reached.Given as goal
 
 abbrev pub invariant-loop-low : goal.invariant-loop-low

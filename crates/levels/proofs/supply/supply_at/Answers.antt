@@ -1,14 +1,9 @@
 -- `levels::supply::supply_at` is the supply at a price. The loop's invariant: the sum over the rows passed, each of which
 -- adds at most 200,000.
 -- Assumes nothing.
-use mathlib.Core.Path.{◌≡◌, ap, ◌∙◌}
-use mathlib.Core.Bool.{cond}
-use Prim.Native.Nat.{ℕ, ◌≤◌, ◌*◌, ◌-◌}
-use mathlib.Core.List.{List}
+use mathlib.Core.Path.{ap, ◌∙◌}
+use Prim.Native.Nat.{◌≤◌}
 use native.Mathlib.Omega.{arith}
-use lib.ListN.{get_or}
-use lib.Dec.{leb}
-use borrow.Author.Rules.{rules}
 use Rattle.laws.specs.Sum.{sum_to, sum_where}
 use Rattle.laws.proofs.Loops.{added_none, added_more}
 use Rattle.auction.specs.Offers.{supply}

@@ -1,6 +1,5 @@
 -- `field_fault` tells a value that is missing.
 -- Assumes nothing.
-use borrow.Author.Rules.{rules}
 use Rattle.limits.proofs.given.field_fault.Goals as goal
 
 pub returns-in-Given : goal.returns-in-Given

@@ -1,7 +1,6 @@
 -- `margin_fault` asks for the margin in the years that go by it.
 -- Assumes nothing.
 use mathlib.Core.Path.{sym, ◌∙◌}
-use borrow.Author.Rules.{rules}
 use Rattle.limits.proofs.given.margin_fault.Goals as goal
 
 pub returns-then-by_margin : goal.returns-then-by_margin

@@ -2,7 +2,6 @@
 -- Assumes nothing.
 use mathlib.Core.Bool.{not}
 use mathlib.Core.Path.{ap}
-use borrow.Author.Rules.{rules}
 use Rattle.limits.proofs.Tested.{offer_fault-unpriced, offer_fault-outside, offer_fault-passed}
 use Rattle.limits.proofs.offers.offer_fault.Goals as goal
 

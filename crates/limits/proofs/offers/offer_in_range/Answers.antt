@@ -3,7 +3,6 @@
 use mathlib.Core.Path.{◌≡◌}
 use mathlib.Core.Bool.{Bool, ◌&&◌, and_assoc}
 use lib.Dec.{leb}
-use borrow.Author.Rules.{rules}
 use Rattle.limits.specs.Offers.{offer_in_range}
 use Rattle.limits.proofs.offers.offer_in_range.Goals as goal
 

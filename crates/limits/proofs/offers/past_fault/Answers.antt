@@ -1,7 +1,6 @@
 -- `past_fault` adds 10 to the offer's own faults where the row does not follow.
 -- Assumes nothing.
 use mathlib.Core.Path.{sym, ap, ◌∙◌}
-use borrow.Author.Rules.{rules}
 use Rattle.values.specs.declared.Verdict.{Verdict}
 use Rattle.values.specs.Refusals.{and_then, broken_steps}
 use Rattle.limits.specs.inner.Rows.{past_fault}

@@ -1,6 +1,5 @@
 -- `step_within` tests a step by the range of its edition.
 -- Assumes nothing.
-use borrow.Author.Rules.{rules}
 use borrow.Author.Tests.{eq-eqb, ne_eqb}
 use Rattle.limits.proofs.offers.step_within.Goals as goal
 

@@ -1,6 +1,5 @@
 -- `by_margin` tests the year against the range.
 -- Assumes nothing.
-use borrow.Author.Rules.{rules}
 use Rattle.limits.specs.Parameters.{by_margin}
 use Rattle.limits.proofs.parameters.by_margin.Goals as goal
 

@@ -1,6 +1,5 @@
 -- `given_within` passes a missing value, and tests the number of a given one.
 -- Assumes nothing.
-use borrow.Author.Rules.{rules}
 use Rattle.limits.proofs.parameters.given_within.Goals as goal
 
 pub returns-in-Given : goal.returns-in-Given

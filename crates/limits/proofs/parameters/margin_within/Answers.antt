@@ -1,6 +1,5 @@
 -- `margin_within` passes a missing margin, and tests the year and the number of a given one.
 -- Assumes nothing.
-use borrow.Author.Rules.{rules}
 use Rattle.limits.proofs.parameters.margin_within.Goals as goal
 
 pub returns-in-Given : goal.returns-in-Given

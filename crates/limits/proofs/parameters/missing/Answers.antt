@@ -5,7 +5,6 @@ use native.Mathlib.Omega.{arith}
 use borrow.Author.Tests.{lt-ltb, le-ltb}
 use Rattle.laws.proofs.Cases.{cond-true, cond-false}
 use Rattle.limits.proofs.Marks.{gap-missing}
-use borrow.Author.Rules.{rules}
 use Rattle.limits.proofs.parameters.missing.Goals as goal
 
 pub returns-then-gap-values_needed : goal.returns-then-gap-values_needed

@@ -2,7 +2,6 @@
 -- Assumes nothing.
 use mathlib.Core.Path.{◌∙◌}
 use Rattle.limits.proofs.Marks.{marks-missing}
-use borrow.Author.Rules.{rules}
 use Rattle.limits.proofs.parameters.missing_in.Goals as goal
 
 pub returns : goal.returns

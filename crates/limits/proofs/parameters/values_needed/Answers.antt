@@ -2,7 +2,6 @@
 -- Assumes nothing.
 use mathlib.Core.Path.{sym, ◌∙◌}
 use native.Mathlib.Omega.{arith}
-use borrow.Author.Rules.{rules}
 use Rattle.laws.proofs.Cases.{cond-true, cond-false}
 use Rattle.limits.proofs.parameters.values_needed.Goals as goal
 

@@ -1,6 +1,5 @@
 -- `with_repeats` looks for a repeat among the rows before the refused one.
 -- Assumes nothing.
-use borrow.Author.Rules.{rules}
 use Rattle.limits.proofs.SecondPass.{with_repeats-repeat, with_repeats-none}
 use Rattle.limits.proofs.repeated.with_repeats.Goals as goal
 

@@ -1,6 +1,6 @@
 -- `market::aim::aim` gives a price inside the bracket.
 -- Assumes nothing.
-use Rattle.std.proofs.Common.{◌-◌, mul-le-mul, arith, rules}
+use Rattle.std.proofs.Common.{◌-◌, mul-le-mul, arith}
 use Rattle.market.proofs.aim.aim.Goals as goal
 
 pub overflow_mul-step : goal.overflow_mul-step

@@ -1,6 +1,6 @@
 -- `market::aim::along` stays inside: no more than the whole way is gone.
 -- Assumes nothing.
-use Rattle.std.proofs.Common.{◌-◌, ◌*◌, ◌/◌, ◌≤◌, mul-le-mul_right, mul-le-mul, arith, rules}
+use Rattle.std.proofs.Common.{◌-◌, ◌*◌, ◌/◌, ◌≤◌, mul-le-mul_right, mul-le-mul, arith}
 use native.Mathlib.Nat.{div-le_of_le-mul}
 use Rattle.market.proofs.aim.along.Goals as goal
 use Rattle.market.proofs.aim.along.Goals.{Start}

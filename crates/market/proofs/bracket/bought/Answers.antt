@@ -1,7 +1,7 @@
 -- `market::bracket::bought` says yes only where the curve reaches the quantity and asks no less there.
 -- Assumes nothing.
 use mathlib.Core.Bool.{false≢true}
-use Rattle.std.proofs.Common.{arith, rules, leb-true}
+use Rattle.std.proofs.Common.{arith, leb-true}
 use Rattle.market.proofs.bracket.bought.Goals as goal
 
 pub returns-then-c-quantity : goal.returns-then-c-quantity

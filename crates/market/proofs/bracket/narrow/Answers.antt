@@ -1,9 +1,6 @@
 -- `market::bracket::narrow` narrows a bracket. The loop's invariant: it is a bracket still, and no lower.
 -- Assumes nothing.
-use Rattle.std.proofs.Common.{◌-◌, ◌≤◌, arith, rules}
-use Rattle.curve.specs.Price.{demand_of}
-use Rattle.market.specs.inner.Bracket.{Under}
-use Rattle.levels.specs.inner.Rows.{listed}
+use Rattle.std.proofs.Common.{◌-◌, arith}
 use Rattle.market.proofs.Narrowing.{under-drawn-in}
 use Rattle.market.proofs.bracket.narrow.Goals as goal
 

@@ -1,6 +1,6 @@
 -- `market::bracket::narrowed` narrows a bracket at a price inside it.
 -- Assumes nothing.
-use Rattle.std.proofs.Common.{le_of_eq, arith, rules}
+use Rattle.std.proofs.Common.{le_of_eq, arith}
 use Rattle.curve.specs.Price.{demand_of}
 use Rattle.market.proofs.Narrowing.{supplied-at, under-over}
 use Rattle.market.proofs.bracket.narrowed.Goals as goal

@@ -1,6 +1,6 @@
 -- `market::prices::last_price` stays inside: no step goes below `from`.
 -- Assumes nothing.
-use Rattle.std.proofs.Common.{◌+◌, ◌-◌, ◌≤◌, arith, rules}
+use Rattle.std.proofs.Common.{◌+◌, ◌-◌, ◌≤◌}
 use Rattle.market.proofs.prices.last_price.Given as goal
 
 abbrev pub invariant-loop-row : goal.invariant-loop-row

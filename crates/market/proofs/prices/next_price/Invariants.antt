@@ -1,6 +1,6 @@
 -- `market::prices::next_price`: no price lies from `from` up to it. The loop's invariant: none of the rows passed.
 -- Assumes nothing.
-use Rattle.std.proofs.Common.{ℕ, ◌+◌, ◌-◌, ◌<◌, ◌≤◌, get_or, arith, rules, below_none, below_more}
+use Rattle.std.proofs.Common.{ℕ, ◌+◌, ◌-◌, ◌<◌, ◌≤◌, get_or}
 use Rattle.market.proofs.prices.next_price.Given as goal
 
 abbrev pub invariant-loop-row : goal.invariant-loop-row

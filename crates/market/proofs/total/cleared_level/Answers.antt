@@ -1,14 +1,13 @@
 -- `market::total::cleared_level` is the level at which the cleared total stops. The loop's invariant: the total is no less than
 -- what is offered below the bracket.
 -- Assumes nothing.
-use Rattle.std.proofs.Common.{◌≡◌, ◌-◌, ◌<◌, ◌≤◌, false, sym, ◌∙◌, arith, rules}
+use Rattle.std.proofs.Common.{◌≡◌, ◌-◌, ◌<◌, ◌≤◌, false, sym, ◌∙◌, arith}
 use Rattle.auction.specs.Offers.{Offers, supply_below}
 use Rattle.curve.specs.Price.{demand_of, tenth_price}
 use Rattle.curve.proofs.Prices.{curve-falls, price-most}
 use Rattle.levels.specs.inner.Rows.{listed}
 use Rattle.levels.specs.inner.Reach.{stops_there}
 use Rattle.levels.proofs.Reaching.{goes-past}
-use Rattle.market.specs.inner.Bracket.{Under}
 use Rattle.market.proofs.Narrowing.{under_whole, below_next}
 use Rattle.market.proofs.Stopping.{below-upto, reached-all, reached-stops}
 use Rattle.market.proofs.total.cleared_level.Goals as goal
@@ -46,13 +45,12 @@ level_at-level-requires c =
     (c.requires.0, upto (goal.at.level_at-level-requires c).After-supply_at-reach, c.narrow-at.ensures.0.within)
 
 pub returns-then-stops : goal.returns-then-stops
-returns-then-stops c =
-    (
-      reached-stops (demand_of c.args.c) (offers (goal.at.returns-then-stops c).After-supply_at-reach) (curve-falls _ c.requires.0) _ c.narrow-at.ensures.0 _ _
-          (below (goal.at.returns-then-stops c).After-supply_at-reach) c.supply_at-reach.ensures.0 _ c.level_at-level.ensures
-          (capped (goal.at.returns-then-stops c).Start) c.next_tried-price.ensures.high (sym c.stops.ensures ∙ c.if-stops.true),
-      omega (arith, c.level_at-level.ensures.total.end),
-    )
+returns-then-stops c = (
+  reached-stops (demand_of c.args.c) (offers (goal.at.returns-then-stops c).After-supply_at-reach) (curve-falls _ c.requires.0) _ c.narrow-at.ensures.0 _ _
+      (below (goal.at.returns-then-stops c).After-supply_at-reach) c.supply_at-reach.ensures.0 _ c.level_at-level.ensures
+      (capped (goal.at.returns-then-stops c).Start) c.next_tried-price.ensures.high (sym c.stops.ensures ∙ c.if-stops.true),
+  omega (arith, c.level_at-level.ensures.total.end),
+)
 
 -- where the search goes on, the total goes past the level
 past : (c : Else-stops) → stops_there c.level_at-level.result ≡ false

@@ -1,7 +1,6 @@
 -- `columns_hold` joins the tests of the columns; in edition 1 no step is tested.
 -- Assumes nothing.
 use mathlib.Core.Bool.{and-true}
-use borrow.Author.Rules.{rules}
 use borrow.Author.Tests.{eq-eqb, ne_eqb}
 use Rattle.reading.proofs.lanes.columns_hold.Goals as goal
 

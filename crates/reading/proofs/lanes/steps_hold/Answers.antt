@@ -1,32 +1,28 @@
 -- `steps_hold` says whether each row has step 1 or stands behind the step before it. The loop's invariant: so it is of the rows passed,
 -- of which row 0 is one.
 -- Assumes nothing.
-use mathlib.Core.Path.{◌≡◌, refl, sym, ap, ap₂, ◌∙◌}
+use mathlib.Core.Path.{refl, sym, ap, ap₂, ◌∙◌}
 use mathlib.Core.Bool.{◌&&◌}
-use Prim.Native.Nat.{◌≤◌, ◌-◌}
+use Prim.Native.Nat.{◌-◌}
 use native.Mathlib.Numerals.{add-one}
 use native.Mathlib.Omega.{arith}
-use borrow.Author.Rules.{rules}
 use borrow.Author.Tests.{lt-ltb}
 use Rattle.laws.specs.Sum.{every}
 use Rattle.laws.proofs.Cases.{cond-true}
 use Rattle.laws.proofs.Everys.{every-zero, every-suc}
-use Rattle.reading.specs.inner.Lanes.{steps_hold}
 use Rattle.reading.proofs.lanes.steps_hold.Goals as goal
 
 pub returns-then-n-eq0 : goal.returns-then-n-eq0
 returns-then-n-eq0 c = let none = c.if-n-eq0.true in rw none (sym (every-zero _))
 
 pub loop-row-init : goal.loop-row-init
-loop-row-init c =
-    (
+loop-row-init c = (
   (omega arith, omega arith),
   sym (every-suc _ 0 ∙ ap₂ ◌&&◌ (every-zero _) refl),
 )
 
 pub loop-row-preserved : goal.loop-row-preserved
-loop-row-preserved c =
-    (
+loop-row-preserved c = (
   (omega arith, omega arith),
   rw (add-one, every-suc)
       (ap₂ ◌&&◌ c.loop-row.invariant.1

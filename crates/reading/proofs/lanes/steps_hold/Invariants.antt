@@ -1,16 +1,8 @@
 -- `steps_hold` says whether each row has step 1 or stands behind the step before it. The loop's invariant: so it is of the rows passed,
 -- of which row 0 is one.
 -- Assumes nothing.
-use mathlib.Core.Path.{◌≡◌, refl, sym, ap, ap₂, ◌∙◌}
-use mathlib.Core.Bool.{◌&&◌}
+use mathlib.Core.Path.{◌≡◌}
 use Prim.Native.Nat.{◌≤◌, ◌-◌}
-use native.Mathlib.Numerals.{add-one}
-use native.Mathlib.Omega.{arith}
-use borrow.Author.Rules.{rules}
-use borrow.Author.Tests.{lt-ltb}
-use Rattle.laws.specs.Sum.{every}
-use Rattle.laws.proofs.Cases.{cond-true}
-use Rattle.laws.proofs.Everys.{every-zero, every-suc}
 use Rattle.reading.specs.inner.Lanes.{steps_hold}
 use Rattle.reading.proofs.lanes.steps_hold.Given as goal
 

@@ -1,13 +1,7 @@
 -- `values_hold` says whether the columns of all rows are in range. The loop's invariant: so it is of the rows passed.
 -- Assumes nothing.
-use mathlib.Core.Path.{◌≡◌, sym, ap, ap₂, ◌∙◌}
-use mathlib.Core.Bool.{◌&&◌}
+use mathlib.Core.Path.{◌≡◌}
 use Prim.Native.Nat.{◌≤◌, ◌-◌}
-use native.Mathlib.Numerals.{add-one}
-use native.Mathlib.Omega.{arith}
-use borrow.Author.Rules.{rules}
-use Rattle.laws.specs.Sum.{every}
-use Rattle.laws.proofs.Everys.{every-zero, every-suc}
 use Rattle.reading.specs.inner.Lanes.{values_hold}
 use Rattle.reading.proofs.lanes.values_hold.Given as goal
 

@@ -2,7 +2,7 @@
 -- the rows passed.
 -- Assumes nothing.
 use mathlib.Core.Path.{◌≡◌}
-use Prim.Native.Nat.{ℕ, ◌≤◌, ◌-◌}
+use Prim.Native.Nat.{ℕ, ◌-◌}
 use native.Mathlib.Omega.{arith}
 use borrow.Author.Rules.{rules}
 use Rattle.laws.proofs.Filling.{length-filling, in-filling}
@@ -10,8 +10,6 @@ use Rattle.values.specs.declared.place.Offer.{Offer}
 use Rattle.values.specs.Contents.{offer_at}
 use Rattle.layout.specs.Read.{row_offers}
 use Rattle.layout.proofs.Contained.{offer-of-row}
-use Rattle.columns.specs.inner.Columns.{columns_of}
-use Rattle.reading.specs.inner.Lanes.{RowsPut}
 use Rattle.reading.proofs.Puts.{put-none, put-more, put-end}
 use Rattle.reading.proofs.put.put_rows.Goals as goal
 use Rattle.reading.proofs.put.put_rows.Goals.{After-offer_in-o}
@@ -52,13 +50,12 @@ pub overflow_add-row : goal.overflow_add-row
 overflow_add-row c = omega (arith, c.loop-row-test.true, c.ranges.n)
 
 pub loop-row-preserved : goal.loop-row-preserved
-loop-row-preserved c =
-    (
-      search rules,
-      put-more _ _ c.loop-row.invariant.1 (as-offer (goal.at.loop-row-preserved c).After-offer_in-o) c.number_held.ensures
-          c.least_of.ensures
-          c.rest_holds-told.ensures,
-    )
+loop-row-preserved c = (
+  search rules,
+  put-more _ _ c.loop-row.invariant.1 (as-offer (goal.at.loop-row-preserved c).After-offer_in-o) c.number_held.ensures
+      c.least_of.ensures
+      c.rest_holds-told.ensures,
+)
 
 pub shape_of-prices : goal.shape_of-prices
 shape_of-prices c = length-filling _ _ _ c.loop-row.invariant.1.read.price

@@ -1,18 +1,10 @@
 -- `put_rows` puts the rows into the columns, and tells whether each holds by what no column tells. The loop's invariant: so it is of
 -- the rows passed.
 -- Assumes nothing.
-use mathlib.Core.Path.{◌≡◌}
-use Prim.Native.Nat.{ℕ, ◌≤◌, ◌-◌}
-use native.Mathlib.Omega.{arith}
-use borrow.Author.Rules.{rules}
-use Rattle.laws.proofs.Filling.{length-filling, in-filling}
-use Rattle.values.specs.declared.place.Offer.{Offer}
-use Rattle.values.specs.Contents.{offer_at}
+use Prim.Native.Nat.{◌≤◌, ◌-◌}
 use Rattle.layout.specs.Read.{row_offers}
-use Rattle.layout.proofs.Contained.{offer-of-row}
 use Rattle.columns.specs.inner.Columns.{columns_of}
 use Rattle.reading.specs.inner.Lanes.{RowsPut}
-use Rattle.reading.proofs.Puts.{put-none, put-more, put-end}
 use Rattle.reading.proofs.put.put_rows.Given as goal
 
 abbrev pub invariant-loop-row : goal.invariant-loop-row

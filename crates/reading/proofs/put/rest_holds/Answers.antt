@@ -1,6 +1,5 @@
 -- `rest_holds` joins the test of the seller and that of the minimum block.
 -- Assumes nothing.
-use borrow.Author.Rules.{rules}
 use Rattle.reading.specs.inner.Lanes.{rest_holds}
 use Rattle.reading.proofs.put.rest_holds.Goals as goal
 

@@ -2,22 +2,19 @@
 -- invariant is that of `values_fault`, with two columns.
 -- Assumes nothing.
 use mathlib.Core.Path.{◌≡◌, sym, ◌∙◌}
-use mathlib.Core.Logic.{⊎_elim}
-use Prim.Native.Nat.{ℕ, ◌≤◌, ◌-◌}
+use Prim.Native.Nat.{ℕ, ◌-◌}
 use native.Mathlib.Omega.{arith}
 use borrow.Author.Rules.{rules}
 use Rattle.laws.proofs.Filling.{length-filling, in-filling}
-use Rattle.values.specs.declared.Verdict.TheVariants.{Passed}
 use Rattle.values.specs.declared.place.Offer.{Offer}
 use Rattle.limits.specs.inner.Rows.{row_fault}
 use Rattle.limits.proofs.Tested.{row_fault-first}
 use Rattle.values.specs.Contents.{offer_at}
 use Rattle.layout.specs.Read.{row_offer, row_offers}
 use Rattle.layout.proofs.Contained.{offer-of-row}
-use Rattle.reading.specs.inner.Rows.{ValuesTested}
 use Rattle.reading.proofs.Tests.{row_at, row-fault, tested-none, tested-more, tested-refused, tested-end}
 use Rattle.reading.proofs.tested.values_tested.Goals as goal
-use Rattle.reading.proofs.tested.values_tested.Goals.{then-o-eq1, else-o-eq1, After-offer_in-o, In-Refused, Joined-o-eq1}
+use Rattle.reading.proofs.tested.values_tested.Goals.{then-o-eq1, else-o-eq1, After-offer_in-o, Joined-o-eq1}
 
 pub loop-row-init : goal.loop-row-init
 loop-row-init c = (search rules, (search rules, tested-none _ _ _ _ _))
@@ -49,7 +46,7 @@ row_told : (c : Joined-o-eq1) →
     c.if-o-eq1.fault ≡ row_fault a.needed a.edition (row_offer a.book.now a.edition a.first (c.loop-row.row - 1)) c.offer_in-o.result c.loop-row.row
 row_told c =
     elim c.if-o-eq1.branch [
-      then-o-eq1 w ↦ w.fault-is ∙ w.offer_fault-fault.ensures ∙ sym (row_fault-first _ _ _ _ _ w.if-o-eq1.true)
+      | then-o-eq1 w ↦ w.fault-is ∙ w.offer_fault-fault.ensures ∙ sym (row_fault-first _ _ _ _ _ w.if-o-eq1.true)
       | else-o-eq1 w ↦ w.fault-is ∙ w.past_tested-fault.ensures
     ]
 
@@ -74,14 +71,13 @@ pub overflow_add-row : goal.overflow_add-row
 overflow_add-row c = omega (arith, c.loop-row-test.true, c.ranges.n)
 
 pub loop-row-preserved : goal.loop-row-preserved
-loop-row-preserved c =
-    (
-      search rules,
-      (
-        search rules,
-        tested-more _ _ _ _ c.loop-row.invariant.1.1 (as-offer (goal.at.loop-row-preserved c).After-offer_in-o) (sym (as-fault (goal.at.loop-row-preserved c).Joined-o-eq1 (as-offer (goal.at.loop-row-preserved c).After-offer_in-o)) ∙ c.in_default.is),
-      ),
-    )
+loop-row-preserved c = (
+  search rules,
+  (
+    search rules,
+    tested-more _ _ _ _ c.loop-row.invariant.1.1 (as-offer (goal.at.loop-row-preserved c).After-offer_in-o) (sym (as-fault (goal.at.loop-row-preserved c).Joined-o-eq1 (as-offer (goal.at.loop-row-preserved c).After-offer_in-o)) ∙ c.in_default.is),
+  ),
+)
 
 pub shape_of-resources : goal.shape_of-resources
 shape_of-resources c = length-filling _ _ _ c.loop-row.invariant.1.1.resource

@@ -1,7 +1,6 @@
 -- `level_at` is what a price level receives and offers.
 -- Assumes nothing.
 use Rattle.reasons.proofs.Shared.{below-reach, level-received}
-use borrow.Author.Rules.{rules}
 use Rattle.reasons.proofs.share.level_at.Goals as goal
 
 pub overflow_sub-sum : goal.overflow_sub-sum

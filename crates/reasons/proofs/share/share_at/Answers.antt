@@ -6,7 +6,6 @@ use native.Mathlib.Omega.{arith}
 use Rattle.auction.specs.Offers.{Offers}
 use Rattle.levels.specs.inner.Rows.{listed}
 use Rattle.reasons.proofs.Shared.{row-level, exact-fits, share-is}
-use borrow.Author.Rules.{rules}
 use Rattle.reasons.proofs.share.share_at.Goals as goal
 use Rattle.reasons.proofs.share.share_at.Goals.{After-level_at-level}
 

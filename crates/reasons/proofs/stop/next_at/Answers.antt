@@ -2,7 +2,6 @@
 -- Assumes nothing.
 use native.Mathlib.Omega.{arith}
 use Rattle.reasons.proofs.Stops.{next-bought, next-none}
-use borrow.Author.Rules.{rules}
 use Rattle.reasons.proofs.stop.next_at.Goals as goal
 
 pub returns-then-x-c : goal.returns-then-x-c

@@ -1,7 +1,6 @@
 -- `stop_at` is where the cleared total stops.
 -- Assumes nothing.
 use Rattle.reasons.proofs.Stops.{stop_is}
-use borrow.Author.Rules.{rules}
 use Rattle.reasons.proofs.stop.stop_at.Goals as goal
 
 pub returns : goal.returns

@@ -1,7 +1,6 @@
 -- `tenth_at` is a tenth of the curve.
 -- Assumes nothing.
 use Rattle.reasons.proofs.Stops.{tenth-is}
-use borrow.Author.Rules.{rules}
 use Rattle.reasons.proofs.stop.tenth_at.Goals as goal
 
 pub returns : goal.returns

@@ -1,15 +1,11 @@
 -- `absent` says whether a number stands in none of the rows. The loop's invariant: so it is of the rows passed.
 -- Assumes nothing.
-use mathlib.Core.Path.{◌≡◌, refl, sym, ap, ap₂, ◌∙◌}
-use mathlib.Core.Bool.{◌&&◌, not}
+use mathlib.Core.Path.{◌≡◌}
+use mathlib.Core.Bool.{not}
 use Prim.Native.Nat.{◌≤◌, ◌-◌}
-use native.Mathlib.Numerals.{add-one}
-use native.Mathlib.Omega.{arith}
 use lib.Dec.{eqb}
 use lib.ListN.{get_or}
-use borrow.Author.Rules.{rules}
 use Rattle.laws.specs.Sum.{every}
-use Rattle.laws.proofs.Everys.{every-zero, every-suc}
 use Rattle.repeats.proofs.flags.absent.Given as goal
 
 abbrev pub invariant-loop-row : goal.invariant-loop-row

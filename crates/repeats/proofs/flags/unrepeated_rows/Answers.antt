@@ -2,12 +2,10 @@
 -- Assumes nothing.
 use mathlib.Core.Path.{◌≡◌, sym, ap, ◌∙◌}
 use mathlib.Core.Bool.{true}
-use mathlib.Core.Logic.{⊎_elim}
-use Prim.Native.Nat.{◌+◌, ◌≤◌, ◌-◌}
+use Prim.Native.Nat.{◌+◌, ◌-◌}
 use native.Mathlib.Omega.{arith}
 use lib.ListN.{get_or}
 use borrow.Author.Rules.{rules}
-use borrow.Author.Tests.{not-false}
 use Rattle.laws.specs.Sum.{every}
 use Rattle.laws.proofs.Everys.{every-zero}
 use Rattle.repeats.specs.Repeats.{no_repeat}
@@ -33,9 +31,9 @@ passed c =
     let inv = c.loop-row.invariant in
     let resources = c.args.resources.now in
     elim c.if-steps-row.branch [
-      then-steps-row w ↦ (
+      | then-steps-row w ↦ (
         elim w.if-steps-row-2.branch [
-          then-steps-row-2+else-not-absent v ↦ repeat-fresh _ _ _ (sym v.absent.ensures ∙ v.if-not-absent.false)
+          | then-steps-row-2+else-not-absent v ↦ repeat-fresh _ _ _ (sym v.absent.ensures ∙ v.if-not-absent.false)
           | else-steps-row-2 v ↦
               by-unset _ _ _ v.if-steps-row-2.false
               (repeat-untested _ _ _)

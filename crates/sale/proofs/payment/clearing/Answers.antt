@@ -1,13 +1,12 @@
 -- `clearing` is the clearing of the contents that stand in the columns. What is paid fits 64 bits: a day's mills are at most
 -- 117,178,068,800,000.
 -- Assumes nothing.
-use mathlib.Core.Path.{◌≡◌, refl, sym, ap, subst, ◌∙◌}
+use mathlib.Core.Path.{refl, sym, ap, subst, ◌∙◌}
 use mathlib.Core.List.{List}
 use Prim.Native.Nat.{ℕ, ◌+◌, ◌≤◌}
 use native.Mathlib.Nat.{lt_of_le_of_lt, mul-le-mul}
 use native.Mathlib.Omega.{arith}
 use lib.Dec.{lit<}
-use borrow.Author.Rules.{rules}
 use Rattle.auction.specs.Settlement.{mills}
 use Rattle.limits.specs.Ranges.{Ranged}
 use Rattle.values.specs.Contents.{Contents}

@@ -1,6 +1,5 @@
 -- `sell` sells the rows of columns on a curve.
 -- Assumes nothing.
-use borrow.Author.Rules.{rules}
 use Rattle.sale.proofs.SaleLaws.{stops-own, sold-columns}
 use Rattle.sale.proofs.sell.sell.Goals as goal
 

@@ -1,7 +1,6 @@
 -- `bytes_hold` meets its contract: it leaves at the first test that fails, and each way out rewrites by the tests that led
 -- there.
 -- Assumes nothing.
-use borrow.Author.Rules.{rules}
 use borrow.Author.Tests.{le-leb, lt-leb}
 use Rattle.sections.specs.Section.{last_holds}
 use Rattle.sections.proofs.rows.bytes_hold.Goals as goal

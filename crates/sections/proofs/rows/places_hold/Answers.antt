@@ -2,7 +2,6 @@
 -- Assumes nothing.
 use mathlib.Core.Bool.{not}
 use mathlib.Core.Path.{sym, ◌∙◌, ap}
-use borrow.Author.Rules.{rules}
 use Rattle.laws.proofs.Ways.{answer-failed, answer-held}
 use Rattle.sections.proofs.Places.{places-rest, rest-none}
 use Rattle.sections.proofs.rows.places_hold.Goals as goal

@@ -1,6 +1,5 @@
 -- `rows_hold` meets its contract: it leaves at the first test that fails.
 -- Assumes nothing.
-use borrow.Author.Rules.{rules}
 use Rattle.laws.proofs.Ways.{ways}
 use Rattle.sections.specs.Section.{rows_hold}
 use Rattle.sections.proofs.rows.rows_hold.Goals as goal

@@ -2,12 +2,11 @@
 -- Assumes nothing.
 use mathlib.Core.Bool.{not}
 use mathlib.Core.Path.{◌≡◌, sym, ap, ◌∙◌}
-use Prim.Native.Nat.{◌≤◌, ◌+◌, ◌-◌}
+use Prim.Native.Nat.{◌+◌, ◌-◌}
 use native.Mathlib.Omega.{arith}
 use borrow.Author.Rules.{rules}
 use borrow.Author.Count.{falls}
 use Rattle.values.specs.Refusals.{first}
-use Rattle.values.specs.declared.Verdict.TheVariants.{Passed}
 use Rattle.values.proofs.Firsts.{unless-held, unless-failed, first-zero, first_on, first-refused}
 use Rattle.sections.specs.Blocks.{block_of}
 use Rattle.sections.specs.Section.{rows_here, rows_hold, block_fault, section_fault}
@@ -40,8 +39,7 @@ loop-j-smaller c = falls _ _ c.loop-j-test.true
 
 pub loop-j-preserved : goal.loop-j-preserved
 unfolding block_fault
-loop-j-preserved c =
-    (
+loop-j-preserved c = (
   search rules,
   first_on _ _
       c.loop-j.invariant.1

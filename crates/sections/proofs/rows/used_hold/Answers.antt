@@ -1,15 +1,14 @@
 -- `used_hold` tells whether the used places are laid out as such. The loop's invariant: those passed are.
 -- Assumes nothing.
 use mathlib.Core.Path.{◌≡◌, ap, ◌∙◌}
-use mathlib.Core.Bool.{true, not}
-use Prim.Native.Nat.{◌≤◌, ◌-◌}
+use mathlib.Core.Bool.{not}
+use Prim.Native.Nat.{◌-◌}
 use lib.Dec.{ltb}
 use borrow.Author.Rules.{rules}
 use native.Mathlib.Omega.{arith}
 use Rattle.laws.proofs.Everys.{every-zero}
 use Rattle.laws.proofs.Ways.{place-held, place-failed, places-held}
 use Rattle.sections.proofs.Parts.{place-part}
-use Rattle.laws.specs.Sum.{every}
 use Rattle.sections.specs.Blocks.{place_of}
 use Rattle.sections.specs.inner.Section.{used_only}
 use Rattle.sections.proofs.rows.used_hold.Goals as goal
@@ -30,8 +29,7 @@ returns-then-not-used_only c =
     place-failed _ _ 15 c.loop-i-test.true (as_place (goal.at.returns-then-not-used_only c).After-used_only) (ap not c.if-not-used_only.true)
 
 pub loop-i-preserved : goal.loop-i-preserved
-loop-i-preserved c =
-    (
+loop-i-preserved c = (
   search rules,
   place-held _ _ c.loop-i.invariant.1 (as_place (goal.at.loop-i-preserved c).After-used_only) (ap not c.if-not-used_only.false),
 )

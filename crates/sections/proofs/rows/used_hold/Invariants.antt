@@ -1,14 +1,9 @@
 -- `used_hold` tells whether the used places are laid out as such. The loop's invariant: those passed are.
 -- Assumes nothing.
-use mathlib.Core.Path.{◌≡◌, ap, ◌∙◌}
+use mathlib.Core.Path.{◌≡◌}
 use mathlib.Core.Bool.{true}
 use Prim.Native.Nat.{◌≤◌, ◌-◌}
 use lib.Dec.{ltb}
-use borrow.Author.Rules.{rules}
-use native.Mathlib.Omega.{arith}
-use Rattle.laws.proofs.Everys.{every-zero}
-use Rattle.laws.proofs.Ways.{place-held, place-failed, places-held}
-use Rattle.sections.proofs.Parts.{place-part}
 use Rattle.laws.specs.Sum.{every}
 use Rattle.sections.specs.Blocks.{place_of}
 use Rattle.sections.specs.inner.Section.{used_only}

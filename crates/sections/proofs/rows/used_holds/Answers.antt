@@ -1,6 +1,5 @@
 -- `used_holds` meets its contract: it leaves at the first test that fails.
 -- Assumes nothing.
-use borrow.Author.Rules.{rules}
 use Rattle.laws.proofs.Ways.{ways}
 use Rattle.values.specs.Values.{marked}
 use Rattle.sections.specs.Section.{used_holds}

@@ -2,14 +2,8 @@
 -- Assumes nothing.
 use mathlib.Core.Path.{◌≡◌}
 use Prim.Native.Nat.{◌+◌, ◌-◌, ◌≤◌}
-use native.Mathlib.Nat.{le_refl, le_antisymm}
-use native.Mathlib.Omega.{arith}
 use lib.ListN.{get_or}
-use borrow.Author.Rules.{rules}
 use Rattle.laws.specs.Filled.{filled}
-use Rattle.laws.proofs.Fills.{filled_none, filled_more}
-use Rattle.laws.proofs.Filling.{length-filling, filled-all}
-use Rattle.laws.proofs.FilledRows.{filled-past}
 use Rattle.shares.proofs.spare.add.Given as goal
 
 abbrev pub invariant-loop-row : goal.invariant-loop-row

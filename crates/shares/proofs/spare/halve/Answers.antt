@@ -1,15 +1,12 @@
 -- `shares::spare::halve` parts the time stamps of the first rows into halves. The loop's invariant: those of the rows passed
 -- are parted.
 -- Assumes nothing.
-use mathlib.Core.Path.{◌≡◌}
-use Prim.Native.Nat.{◌-◌, ◌≤◌}
+use Prim.Native.Nat.{◌-◌}
 use native.Mathlib.Nat.{le_antisymm}
 use native.Mathlib.Omega.{arith}
 use borrow.Author.Rules.{rules}
-use Rattle.laws.specs.Filled.{filled}
 use Rattle.laws.proofs.Fills.{filled_none, filled_more}
 use Rattle.laws.proofs.Filling.{length-filling, filled-all}
-use Rattle.shares.specs.inner.Halves.{high_half, low_half}
 use Rattle.shares.proofs.spare.halve.Goals as goal
 
 pub loop-row-init : goal.loop-row-init

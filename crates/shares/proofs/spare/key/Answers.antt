@@ -4,7 +4,6 @@
 use mathlib.Core.Path.{◌≡◌, sym, ◌∙◌}
 use Prim.Native.Nat.{◌+◌, ◌*◌, ◌%◌, ◌<◌}
 use native.Mathlib.Omega.{arith}
-use borrow.Author.Rules.{rules}
 use Rattle.parts.proofs.RowParts.{part_left, key-at, key-away}
 use Rattle.shares.proofs.spare.key.Goals as goal
 use Rattle.shares.proofs.spare.key.Goals.{After-exact}

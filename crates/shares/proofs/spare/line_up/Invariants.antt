@@ -2,12 +2,7 @@
 -- Assumes nothing.
 use mathlib.Core.Path.{◌≡◌}
 use Prim.Native.Nat.{◌-◌, ◌≤◌}
-use native.Mathlib.Nat.{le_antisymm}
-use native.Mathlib.Omega.{arith}
-use borrow.Author.Rules.{rules}
 use Rattle.laws.specs.Filled.{filled}
-use Rattle.laws.proofs.Fills.{filled_none, filled_more}
-use Rattle.laws.proofs.Filling.{length-filling, filled-all}
 use Rattle.parts.specs.inner.Parts.{row_key, row_standing}
 use Rattle.shares.proofs.spare.line_up.Given as goal
 

@@ -2,7 +2,6 @@
 -- Assumes nothing.
 use Rattle.reasons.proofs.Shared.{below-reach, level-received}
 use Rattle.turns.proofs.Leveled.{level-found}
-use borrow.Author.Rules.{rules}
 use Rattle.turns.proofs.level.level_at.Goals as goal
 
 pub overflow_sub-sum : goal.overflow_sub-sum

@@ -6,7 +6,6 @@ use native.Mathlib.Omega.{arith}
 use borrow.Author.Tests.{eq-eqb, ne_eqb}
 use Rattle.reasons.proofs.Shared.{exact-fits}
 use Rattle.turns.proofs.Leveled.{quotient-most}
-use borrow.Author.Rules.{rules}
 use Rattle.turns.proofs.level.part.Goals as goal
 use Rattle.turns.proofs.level.part.Goals.{Start}
 

@@ -5,7 +5,6 @@ use native.Mathlib.Omega.{arith}
 use Rattle.auction.specs.Offers.{Offers}
 use Rattle.levels.specs.inner.Rows.{listed}
 use Rattle.turns.proofs.Leveled.{part-own}
-use borrow.Author.Rules.{rules}
 use Rattle.turns.proofs.level.part_at.Goals as goal
 use Rattle.turns.proofs.level.part_at.Goals.{Start}
 
@@ -22,8 +21,7 @@ abbrev rows : Start → Offers
 rows c = listed c.args.prices.now c.args.quantities.now c.args.n
 
 pub returns : goal.returns
-returns c =
-    (
-      part-own (rows (goal.at.returns c).Start) c.args.x c.args.row _ _ c.level_at-level.ensures.level c.part.ensures.0,
-      omega (arith, c.part.ensures.1, c.requires.0.small _ c.requires.2),
-    )
+returns c = (
+  part-own (rows (goal.at.returns c).Start) c.args.x c.args.row _ _ c.level_at-level.ensures.level c.part.ensures.0,
+  omega (arith, c.part.ensures.1, c.requires.0.small _ c.requires.2),
+)

@@ -1,19 +1,12 @@
 -- `parts_at` sums the parts of a level rounded down. The loop's invariant: the sum over the rows passed, each of which adds at most
 -- 200,000.
 -- Assumes nothing.
-use mathlib.Core.Path.{◌≡◌, ap, ◌∙◌}
-use mathlib.Core.Bool.{cond}
-use mathlib.Core.List.{List}
-use Prim.Native.Nat.{ℕ, ◌*◌, ◌-◌, ◌/◌, ◌≤◌}
+use mathlib.Core.Path.{ap, ◌∙◌}
+use Prim.Native.Nat.{◌-◌, ◌≤◌}
 use native.Mathlib.Omega.{arith}
-use lib.ListN.{get_or}
-use lib.Dec.{eqb}
 use Rattle.laws.specs.Sum.{sum_to, sum_where}
 use Rattle.laws.proofs.Loops.{added_none, added_more}
-use Rattle.reasons.specs.declared.share.Received.{Received}
 use Rattle.turns.specs.inner.Contending.{parts_in}
-use borrow.Author.Rules.{rules}
-use Rattle.turns.proofs.level.parts_at.Invariants.{adds}
 use Rattle.turns.proofs.level.parts_at.Goals as goal
 use Rattle.turns.proofs.level.parts_at.Goals.{After-part-sum}
 

@@ -2,7 +2,6 @@
 -- Assumes nothing.
 use native.Mathlib.Omega.{arith}
 use Rattle.reasons.proofs.Shared.{exact-fits}
-use borrow.Author.Rules.{rules}
 use Rattle.turns.proofs.order.contender_of.Goals as goal
 
 pub overflow_mul-result : goal.overflow_mul-result

@@ -3,7 +3,6 @@
 use native.Mathlib.Omega.{arith}
 use borrow.Author.Tests.{eq-eqb, ne_eqb}
 use Rattle.turns.proofs.Ordering.{ahead-told}
-use borrow.Author.Rules.{rules}
 use Rattle.turns.proofs.order.one_before.Goals as goal
 
 pub contender_of-requires : goal.contender_of-requires

@@ -1,14 +1,12 @@
 -- `row_at` is the first row at a place. The loop's invariant: no row passed stands there.
 -- Assumes nothing.
-use mathlib.Core.Path.{◌≡◌, sym, ◌∙◌}
-use mathlib.Core.Bool.{false}
-use Prim.Native.Nat.{ℕ, ◌-◌, ◌≤◌, ◌<◌}
+use mathlib.Core.Path.{sym, ◌∙◌}
+use Prim.Native.Nat.{◌-◌}
 use native.Mathlib.Omega.{arith}
 use borrow.Author.Count.{below_none, below_more}
 use Rattle.auction.specs.Offers.{Offers}
 use Rattle.columns.specs.inner.Column.{rows_of}
-use Rattle.turns.proofs.Turning.{stands_at, row-placed, row-unplaced}
-use borrow.Author.Rules.{rules}
+use Rattle.turns.proofs.Turning.{row-placed, row-unplaced}
 use Rattle.turns.proofs.place.row_at.Goals as goal
 use Rattle.turns.proofs.place.row_at.Goals.{Start}
 

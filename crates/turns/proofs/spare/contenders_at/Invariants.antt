@@ -1,15 +1,11 @@
 -- `contenders_at` counts the rows at a price. The loop's invariant: those of the rows passed.
 -- Assumes nothing.
-use mathlib.Core.Path.{◌≡◌, ap, ◌∙◌}
+use mathlib.Core.Path.{◌≡◌}
 use mathlib.Core.Bool.{cond}
 use Prim.Native.Nat.{◌-◌, ◌≤◌}
-use native.Mathlib.Omega.{arith}
 use lib.ListN.{get_or}
 use lib.Dec.{eqb}
-use Rattle.laws.specs.Sum.{sum_to, sum_where, count_where}
-use Rattle.laws.proofs.Loops.{added_none, added_more}
-use Rattle.turns.specs.Order.{contenders}
-use borrow.Author.Rules.{rules}
+use Rattle.laws.specs.Sum.{sum_to}
 use Rattle.turns.proofs.spare.contenders_at.Given as goal
 
 abbrev pub invariant-loop-row : goal.invariant-loop-row

@@ -1,18 +1,11 @@
 -- `before_in` counts who stands before a contender. The loop's invariant: those of the rows passed.
 -- Assumes nothing.
-use mathlib.Core.Path.{◌≡◌, ap, ◌∙◌}
-use mathlib.Core.Bool.{cond, ◌&&◌}
-use Prim.Native.Nat.{ℕ, ◌-◌, ◌≤◌}
+use mathlib.Core.Path.{ap, ◌∙◌}
+use Prim.Native.Nat.{◌-◌}
 use native.Mathlib.Omega.{arith}
-use lib.Dec.{eqb}
 use Rattle.laws.specs.Sum.{sum_to, sum_where, count_where}
 use Rattle.laws.proofs.Loops.{added_none, added_more}
-use Rattle.auction.specs.Offers.{Offers}
-use Rattle.columns.specs.inner.Column.{rows_of}
-use Rattle.reasons.specs.declared.share.Received.{Received}
-use Rattle.turns.specs.inner.Contending.{contender_of, ahead_of, before_in}
-use Rattle.turns.specs.declared.order.Contender.{Contender}
-use borrow.Author.Rules.{rules}
+use Rattle.turns.specs.inner.Contending.{before_in}
 use Rattle.turns.proofs.standing.before_in.Goals as goal
 
 pub loop-row-init : goal.loop-row-init

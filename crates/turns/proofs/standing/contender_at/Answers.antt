@@ -5,7 +5,6 @@ use Rattle.auction.specs.Offers.{Offers}
 use Rattle.columns.specs.inner.Column.{rows_of}
 use Rattle.turns.proofs.Leveled.{level-rows}
 use Rattle.turns.proofs.Ordering.{contender-found}
-use borrow.Author.Rules.{rules}
 use Rattle.turns.proofs.standing.contender_at.Goals as goal
 use Rattle.turns.proofs.standing.contender_at.Goals.{Start}
 

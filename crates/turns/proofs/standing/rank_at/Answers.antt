@@ -4,7 +4,6 @@ use Rattle.auction.specs.Offers.{Offers}
 use Rattle.columns.specs.inner.Column.{rows_of}
 use Rattle.turns.proofs.Leveled.{level-rows}
 use Rattle.turns.proofs.Ordering.{rank-found}
-use borrow.Author.Rules.{rules}
 use Rattle.turns.proofs.standing.rank_at.Goals as goal
 use Rattle.turns.proofs.standing.rank_at.Goals.{Start}
 

@@ -2,7 +2,6 @@
 -- Assumes nothing.
 use borrow.Author.Tests.{lt-ltb, le-ltb}
 use Rattle.turns.specs.Turn.{rival_place}
-use borrow.Author.Rules.{rules}
 use Rattle.turns.proofs.turn.other_side.Goals as goal
 
 pub returns-then-place-spares : goal.returns-then-place-spares

@@ -4,7 +4,6 @@ use mathlib.Core.Path.{sym, ◌∙◌}
 use Rattle.auction.specs.Offers.{Offers}
 use Rattle.columns.specs.inner.Column.{rows_of}
 use Rattle.turns.proofs.Turning.{rival-no-spare, rival-none, rival-against}
-use borrow.Author.Rules.{rules}
 use Rattle.turns.proofs.turn.rival_at.Goals as goal
 use Rattle.turns.proofs.turn.rival_at.Goals.{Start}
 

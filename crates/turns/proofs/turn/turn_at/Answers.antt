@@ -6,7 +6,6 @@ use Rattle.auction.specs.Shares.{spare_tenths}
 use Rattle.columns.specs.inner.Column.{rows_of}
 use Rattle.turns.proofs.Leveled.{down-rows, spares-rows}
 use Rattle.turns.proofs.Turning.{contenders-rows, turn_is}
-use borrow.Author.Rules.{rules}
 use Rattle.turns.proofs.turn.turn_at.Goals as goal
 use Rattle.turns.proofs.turn.turn_at.Goals.{After-tenth}
 

@@ -1,7 +1,6 @@
 -- `values::head::edition_in` meets its contract.
 -- Assumes nothing.
 use Rattle.values.specs.Head.{edition_in}
-use borrow.Author.Rules.{rules}
 use Rattle.values.proofs.head.edition_in.Goals as goal
 
 pub returns : goal.returns

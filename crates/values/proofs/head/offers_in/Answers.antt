@@ -1,7 +1,6 @@
 -- `values::head::offers_in` meets its contract.
 -- Assumes nothing.
 use Rattle.values.specs.Head.{offers_in}
-use borrow.Author.Rules.{rules}
 use Rattle.values.proofs.head.offers_in.Goals as goal
 
 pub returns : goal.returns

@@ -2,7 +2,6 @@
 -- Assumes nothing.
 use Rattle.values.specs.Values.{marked}
 use Rattle.values.specs.Place.{offer_of}
-use borrow.Author.Rules.{rules}
 use Rattle.values.proofs.place.offer_in.Goals as goal
 
 pub returns : goal.returns

@@ -1,7 +1,6 @@
 -- `row_works` is what a row works out to.
 -- Assumes nothing.
 use Rattle.workings.proofs.Rowed.{row_is}
-use borrow.Author.Rules.{rules}
 use Rattle.workings.proofs.row.row_works.Goals as goal
 
 pub turn_at-turn-requires : goal.turn_at-turn-requires

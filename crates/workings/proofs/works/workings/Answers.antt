@@ -3,7 +3,6 @@
 use mathlib.Core.Path.{sym, ◌∙◌}
 use Rattle.book.proofs.Stages.{before-length}
 use Rattle.workings.proofs.Worked.{answer-before}
-use borrow.Author.Rules.{rules}
 use Rattle.workings.proofs.works.workings.Goals as goal
 
 pub returns-in-Refused : goal.returns-in-Refused

@@ -1,7 +1,6 @@
 -- `works_opened` reads the rows into columns of zeros, and works over them.
 -- Assumes nothing.
 use mathlib.Core.Path.{◌≡◌, refl, sym, subst, ◌∙◌}
-use borrow.Author.Rules.{rules}
 use Rattle.values.specs.declared.Verdict.TheVariants.{Passed}
 use Rattle.limits.specs.Ranges.{Ranged}
 use Rattle.layout.specs.Read.{contents_of}
