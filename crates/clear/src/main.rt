@@ -3,20 +3,19 @@
 #![tactic(auto)]
 
 use input::read_input;
-use libc::{STDERR_FILENO, STDIN_FILENO, STDOUT_FILENO};
 use report::put_report;
 
 // A book that does not fit the buffer is longer than any book, and what fits of it is refused as too long.
-fn main() {
-    let mut bytes = io::large_buffer();
-    let input = read_input(STDIN_FILENO, &mut bytes);
-    if input.failed {
-        io::write_all(STDERR_FILENO, b"clear: standard input cannot be read\n");
+fn main(rt: HostRuntime) {
+    let mut bytes = [0u8; 65536];
+    let input = read_input(&mut rt.stdin(), &mut bytes);
+    if input.failed.is_some() {
+        let _ = rt.eprintln("clear: standard input cannot be read");
         return;
     }
     let mut out = [0u8; 32768];
     let end = put_report(&mut out, 0, &bytes[..input.length]);
-    if !io::write_all(STDOUT_FILENO, &out[..end]) {
-        io::write_all(STDERR_FILENO, b"clear: standard output was not all taken\n");
+    if rt.write_all(&out[..end]).is_err() {
+        let _ = rt.eprintln("clear: standard output was not all taken");
     }
 }

@@ -3,23 +3,19 @@
 #![tactic(auto)]
 
 use input::read_input;
-use libc::{STDERR_FILENO, STDIN_FILENO, STDOUT_FILENO};
 use numbers::lesser_size;
 use page::put_page;
 
-fn main() {
-    let mut bytes = io::large_buffer();
-    let input = read_input(STDIN_FILENO, &mut bytes);
-    if input.failed {
-        io::write_all(STDERR_FILENO, b"explain: standard input cannot be read\n");
+fn main(rt: HostRuntime) {
+    let mut bytes = [0u8; 65536];
+    let input = read_input(&mut rt.stdin(), &mut bytes);
+    if input.failed.is_some() {
+        let _ = rt.eprintln("explain: standard input cannot be read");
         return;
     }
     let mut text = [0u8; 98304];
     let end = put_page(&mut text, 0, &bytes[..input.length]);
-    if !io::write_all(STDOUT_FILENO, &text[..lesser_size(end, 98304)]) {
-        io::write_all(
-            STDERR_FILENO,
-            b"explain: standard output was not all taken\n",
-        );
+    if rt.write_all(&text[..lesser_size(end, 98304)]).is_err() {
+        let _ = rt.eprintln("explain: standard output was not all taken");
     }
 }

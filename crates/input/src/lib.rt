@@ -1,33 +1,45 @@
 // An input, read to its end: a read that fails is told from an input that has ended.
 #![tactic(auto)]
 
+ghost use Rattle.std.specs.Prelude.{◌≡◌, ◌<◌, None, length, take};
+ghost use Rattle.std.specs.Io.KnownBytes.{Consumes, IsAtEnd};
 ghost use Rattle.io.specs.Counts.{IsPrefixLen};
 
-// What was read: how many bytes, and whether a read failed before the input ended.
+use std::io::{Error, Read};
+
+// What was read: how many bytes, and why a read failed before the input ended, if one did.
 #[derive(Clone, Copy)]
 pub struct Input {
     pub length: usize,
-    pub failed: bool,
+    pub failed: Option<Error>,
 }
 
 // Reads until the bytes are full, the input ends or a read fails, and puts what it reads at their start.
-pub fn read_input(file: i32, bytes: &mut [u8]) -> Input
-    ensures { IsPrefixLen result.length bytes.new }
+pub fn read_input<R: Read>(reader: &mut R, bytes: &mut [u8]) -> Input
+    ensures within { IsPrefixLen result.length bytes.new }
+    ensures taken { Consumes (R.remaining reader.old) (R.remaining reader.new) (take result.length bytes.new) }
+    ensures whole { result.failed ≡ None → result.length < length bytes.new → IsAtEnd (R.remaining reader.new) }
 {
     let mut done = 0;
     while done < bytes.len() {
-        let got = libc::read(file, &mut bytes[done..]);
-        let more = io::count(got, &bytes[done..]);
-        if more == 0 {
-            return Input {
-                length: done,
-                failed: got < 0,
-            };
+        match reader.read(&mut bytes[done..]) {
+            Ok(0) => {
+                return Input {
+                    length: done,
+                    failed: None,
+                };
+            }
+            Ok(more) => done += more,
+            Err(why) => {
+                return Input {
+                    length: done,
+                    failed: Some(why),
+                };
+            }
         }
-        done += more;
     }
     Input {
         length: done,
-        failed: false,
+        failed: None,
     }
 }

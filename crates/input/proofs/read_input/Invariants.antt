@@ -1,14 +1,15 @@
--- `read_input` ends, and what it counts stands at the start of the bytes: each turn reads some more of what is left of them.
+-- The loop's invariant: what was read so far stands at the start of the bytes, and the reader gave it.
 -- Assumes nothing.
-use Prim.Native.Nat.{◌-◌, ◌≤◌}
-use mathlib.Core.Path.{◌≡◌}
-use lib.ListN.{length}
-use borrow.Author.Rules.{rules}
-use Rattle.io.proofs.Counting.{prefix_len_of_le}
+use Rattle.std.proofs.Common.{length, ◌-◌, take, ◌≤◌, ◌≡◌}
+use Rattle.std.specs.Io.KnownBytes.{Consumes}
 use Rattle.input.proofs.read_input.Given as goal
 
 abbrev pub invariant-loop-done : goal.invariant-loop-done
-invariant-loop-done l = (length l.bytes ≡ length l.initial.bytes) × (l.done ≤ length l.bytes)
+invariant-loop-done g l = record {
+  kept : length l.bytes ≡ length l.initial.bytes;
+  within : l.done ≤ length l.bytes;
+  taken : Consumes (g.R.Read.remaining l.initial.reader) (g.R.Read.remaining l.reader) (take l.done l.bytes);
+}
 
 abbrev pub decreases-loop-done : goal.decreases-loop-done
-decreases-loop-done l = length l.bytes - l.done
+decreases-loop-done g l = length l.initial.bytes - l.done
