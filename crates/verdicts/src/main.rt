@@ -1,5 +1,5 @@
 // Writes a line for each book that its arguments name: whether it is accepted, whether it is sound, and how many of its
-// rows the reader hands back.
+// rows the reader hands back. A book that cannot be read is one line on standard error.
 #![tactic(auto)]
 
 ghost use Rattle.std.specs.Prelude.{◌≡◌};
@@ -9,7 +9,9 @@ ghost use Rattle.verdicts.specs.inner.Handed.{rows_handed};
 use book::{soundness, verdict};
 use input::read_input;
 use layout::reader::own_bytes;
-use libc::STDOUT_FILENO;
+use std::fs::File;
+use std::rt::Files;
+use std::{env, io};
 use values::Verdict;
 
 // How many rows the reader hands back, from row 0 on until the first empty part: all that the book states, and none of one
@@ -28,66 +30,56 @@ fn rows_handed(book: &[u8]) -> usize
     row
 }
 
-// Writes a space and a number.
-fn write_number(number: u32) {
-    io::write_all(STDOUT_FILENO, b" ");
-    io::print_decimal(STDOUT_FILENO, number as u64);
-}
-
 // Writes one word where the book passed, and else another with the refusal's number and place.
-fn write_verdict(v: Verdict, passed: &[u8], refused: &[u8]) {
-    if let Verdict::Refused(number, place) = v {
-        io::write_all(STDOUT_FILENO, refused);
-        write_number(number);
-        write_number(place);
-        return;
+fn write_verdict(rt: &impl Print, v: Verdict, passed: &str, refused: &str) -> io::Result<()> {
+    match v {
+        Verdict::Passed => print!(rt; "{passed}"),
+        Verdict::Refused(number, place) => print!(rt; "{refused} {number} {place}"),
     }
-    io::write_all(STDOUT_FILENO, passed);
 }
 
 // Writes the line of a book.
-fn write_line(name: &[u8], book: &[u8]) {
-    io::write_all(STDOUT_FILENO, name);
-    io::write_all(STDOUT_FILENO, b": ");
-    write_verdict(verdict(book), b"accepted", b"refused");
-    io::write_all(STDOUT_FILENO, b", ");
-    write_verdict(soundness(book), b"sound", b"unsound");
-    io::write_all(STDOUT_FILENO, b", rows ");
-    io::print_decimal(STDOUT_FILENO, rows_handed(book) as u64);
-    io::write_all(STDOUT_FILENO, b"\n");
+fn write_line(rt: &impl Print, name: &str, book: &[u8]) -> io::Result<()> {
+    print!(rt; "{name}: ")?;
+    write_verdict(rt, verdict(book), "accepted", "refused")?;
+    print!(rt; ", ")?;
+    write_verdict(rt, soundness(book), "sound", "unsound")?;
+    let rows = rows_handed(book);
+    println!(rt; ", rows {rows}")
+}
+
+// What an error says, without its number.
+fn words_of(said: &str) -> &str {
+    match said.split_once(" (os error ") {
+        Some((words, _)) => words,
+        None => said,
+    }
+}
+
+// Says why a book cannot be read, in the words of the system.
+fn tell(rt: &(impl Eprint + Alloc), name: &str, why: io::Error) -> io::Result<()> {
+    let said = format!(in rt.alloc(); "{why}")?;
+    let words = words_of(said.as_str());
+    eprintln!(rt; "{name}: {words}")
 }
 
 // Reads the file that has this name and writes its line. A file that does not fit the buffer is longer than any book.
-fn judge(name: &[u8]) {
-    let file = os::open_read(name);
-    if file < 0 {
-        os::fail(name);
-        return;
+fn judge(rt: &(impl Files + Print + Eprint + Alloc), name: &str) -> io::Result<()> {
+    let mut file = match File::open(rt, name) {
+        Ok(file) => file,
+        Err(why) => return tell(rt, name, why),
+    };
+    let mut bytes = [0u8; 65536];
+    let input = read_input(&mut file, &mut bytes);
+    match input.failed {
+        Some(why) => tell(rt, name, why),
+        None => write_line(rt, name, &bytes[..input.length]),
     }
-    let mut bytes = io::large_buffer();
-    let input = read_input(file, &mut bytes);
-    if input.failed {
-        os::fail(name);
-    } else {
-        write_line(name, &bytes[..input.length]);
-    }
-    libc::close(file);
 }
 
-// Judges the book that argument i names.
-fn judge_argument(i: usize) {
-    let mut name = io::buffer();
-    let length = os::arg(i, &mut name);
-    if os::errno() != 0 {
-        os::fail(b"name");
-        return;
+fn main(rt: HostRuntime) -> io::Result<()> {
+    for name in env::args(&rt)?.skip(1) {
+        judge(&rt, name.as_str())?;
     }
-    judge(&name[..length]);
-}
-
-fn main() {
-    let count = os::arg_count();
-    for i in 1..count {
-        judge_argument(i);
-    }
+    Ok(())
 }

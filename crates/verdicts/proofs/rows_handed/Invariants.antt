@@ -1,13 +1,8 @@
 -- `rows_handed` counts the rows that the reader hands back. The loop's invariant: as many as were asked.
 -- Assumes nothing.
-use mathlib.Core.Path.{sym, ap, ◌∙◌}
 use Prim.Native.Nat.{◌≤◌, ◌-◌}
-use native.Mathlib.Omega.{arith}
-use lib.ListN.{length}
-use borrow.Author.Rules.{rules}
 use Rattle.layout.specs.Form.{form_fault, offer_count}
 use Rattle.verdicts.specs.inner.Handed.{rows_handed}
-use Rattle.verdicts.proofs.Handing.{handed-empty, handed-more, handed-few}
 use Rattle.verdicts.proofs.rows_handed.Given as goal
 
 abbrev pub invariant-loop-row : goal.invariant-loop-row
