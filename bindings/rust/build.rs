@@ -10,7 +10,7 @@ fn main() {
     println!("cargo:rerun-if-env-changed=OZPINDURU_LIB_DIR");
     let folder = match env::var_os("OZPINDURU_LIB_DIR") {
         Some(folder) => PathBuf::from(folder),
-        None => Path::new(&env::var_os("CARGO_MANIFEST_DIR").expect("cargo sets it")).join("../../target/staticlib"),
+        None => Path::new(&env::var_os("CARGO_MANIFEST_DIR").expect("cargo sets it")).join("../../crates/ozpinduru/out"),
     };
     let archive = folder.join(ARCHIVE);
     println!("cargo:rerun-if-changed={}", archive.display());
