@@ -16,4 +16,5 @@ pub mod Committed
 pub mod Divided
 pub mod ByRow
 pub mod Shared
+pub mod Unmoved
 pub mod Losers

@@ -19,7 +19,7 @@ use Rattle.auction.specs.Clearing.{cleared_total, clearing_price}
 use Rattle.auction.specs.Settlement.{committed, mills, make_whole}
 use Rattle.auction.specs.Losers.{rows_at_or_below}
 use Rattle.auction.proofs.ByRow.{row_clears}
-use Rattle.auction.proofs.Losers.{total-unmoved, price-unmoved, clears-unmoved}
+use Rattle.auction.proofs.Unmoved.{total-unmoved, price-unmoved, clears-unmoved}
 use Rattle.calendar.specs.Year.{days_of}
 use Rattle.curve.specs.Price.{demand_of}
 use Rattle.region.specs.Region.{region_curve}

@@ -19,7 +19,7 @@ use Rattle.auction.specs.Settlement.{committed, make_whole}
 use Rattle.auction.specs.Losers.{Row, rows_at_or_below}
 use Rattle.auction.proofs.Committed.{committed-none}
 use Rattle.auction.proofs.ByRow.{row_clears, cleared-by-row}
-use Rattle.auction.proofs.Losers.{loser-clears-nothing}
+use Rattle.auction.proofs.Unmoved.{loser-clears-nothing}
 use Rattle.values.specs.Values.{held}
 use Rattle.values.specs.Contents.{Contents, no_offer, offer_at}
 use Rattle.values.specs.declared.Value.{Value}
