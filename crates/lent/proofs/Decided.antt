@@ -5,7 +5,7 @@ use mathlib.Core.Path.{◌≡◌, sym, ap, ◌∙◌}
 use mathlib.Core.List.{List}
 use Prim.Native.Nat.{ℕ}
 use contract.Lifetimes.{Lfts}
-use denote.Ref.{MutBor}
+use denote.Ref.{Bor, MutBor}
 use Rattle.values.specs.Contents.{Contents}
 use Rattle.values.specs.declared.head.Parameters.{Parameters}
 use Rattle.places.specs.inner.Rows.{put_row}
@@ -41,7 +41,7 @@ test-row-decided κs d edition i row kept₁ kept₂ kept₁' kept₂' r s same 
     (e.0 ∙ sym f.0, e.1 ∙ ap (λ (k : List ℕ). kept_row k i (offer_in row)) same ∙ sym f.1)
 
 -- 8 of what was kept, by the contract of `unrepeated`
-pub unrepeated-decided : (κs : Lfts 1) (d : Draft) (kept other : MutBor (List ℕ)) (r s : Draft)
+pub unrepeated-decided : (κs : Lfts 1) (d : Draft) (kept other : Bor (List ℕ)) (r s : Draft)
     → kept.now ≡ other.now
     → unrepeated.Post κs (d, (kept, tt)) r (d, (kept, tt))
     → unrepeated.Post κs (d, (other, tt)) s (d, (other, tt))

@@ -4,7 +4,7 @@ use mathlib.Core.Path.{◌≡◌, sym, ◌∙◌}
 use mathlib.Core.List.{List}
 use Prim.Native.Nat.{ℕ}
 use contract.Lifetimes.{Lfts}
-use denote.Ref.{Bor}
+use denote.Ref.{MutBor}
 use Rattle.laws.proofs.Answers.{same_answer}
 use Rattle.values.specs.declared.head.Parameters.{Parameters}
 use Rattle.encoding.specs.Numbers.{zeros}
@@ -18,7 +18,7 @@ use Rattle.making.proofs.put_book.Reads as put-book
 pub bytes-for-decided : (rows r s : ℕ) → bytes-for.Post tt (rows, tt) r (rows, tt) → bytes-for.Post tt (rows, tt) s (rows, tt) → r ≡ s
 bytes-for-decided rows r s e f = e.0 ∙ sym f.0
 
-module _ (κs : Lfts 1) (b c b' c' : Bor (List ℕ)) (same : b.now ≡ c.now) where
+module _ (κs : Lfts 1) (b c b' c' : MutBor (List ℕ)) (same : b.now ≡ c.now) where
   -- zeros, by the contract of `put_zeros`
   pub put-zeros-decided : (at n : ℕ) → put-zeros.Post κs (b, (at, (n, tt))) tt (b', (at, (n, tt)))
       → put-zeros.Post κs (c, (at, (n, tt))) tt (c', (at, (n, tt))) → b'.now ≡ c'.now

@@ -5,7 +5,7 @@ use mathlib.Core.Path.{◌≡◌, sym, ap, ap₂, ◌∙◌}
 use mathlib.Core.List.{List}
 use Prim.Native.Nat.{ℕ}
 use contract.Lifetimes.{Lfts}
-use denote.Ref.{Bor}
+use denote.Ref.{Bor, MutBor}
 use Rattle.laws.proofs.Answers.{same_answer}
 use Rattle.values.specs.declared.Value.{Value}
 use Rattle.values.specs.declared.place.Offer.{Offer}
@@ -23,7 +23,7 @@ pub mark-of-decided : (v : Value) (weight r s : ℕ)
     → mark_of.Post tt (v, (weight, tt)) r (v, (weight, tt)) → mark_of.Post tt (v, (weight, tt)) s (v, (weight, tt)) → r ≡ s
 mark-of-decided v weight r s e f = e.0 ∙ sym f.0
 
-module _ (κs : Lfts 1) (b c b' c' : Bor (List ℕ)) (same : b.now ≡ c.now) where
+module _ (κs : Lfts 1) (b c b' c' : MutBor (List ℕ)) (same : b.now ≡ c.now) where
   -- a number, by the contract of `put_u16`
   pub put-u16-decided : (at n : ℕ)
       → put-u16.Post κs (b, (at, (n, tt))) tt (b', (at, (n, tt)))
@@ -46,7 +46,7 @@ module _ (κs : Lfts 1) (b c b' c' : Bor (List ℕ)) (same : b.now ≡ c.now) wh
   put-row-decided edition i o = same_answer (λ l. put_row l edition i o) same
 
 -- the letters of a block, by the contract of `put_letters`
-pub put-letters-decided : (κs : Lfts 2) (b c b' c' letters others : Bor (List ℕ)) (at : ℕ) → b.now ≡ c.now → letters.now ≡ others.now
+pub put-letters-decided : (κs : Lfts 2) (b c b' c' : MutBor (List ℕ)) (letters others : Bor (List ℕ)) (at : ℕ) → b.now ≡ c.now → letters.now ≡ others.now
     → put-letters.Post κs (b, (at, (letters, tt))) tt (b', (at, (letters, tt)))
     → put-letters.Post κs (c, (at, (others, tt))) tt (c', (at, (others, tt)))
     → b'.now ≡ c'.now

@@ -17,5 +17,5 @@ returns-in-20 c = told-as (words-known c.in-20.is) c.put_text-in-20.ensures
 
 pub returns-in_default : goal.returns-in_default
 returns-in_default c =
-    let m = c.in_default.rest in
+    let m = c.in_default.in_default-own.rest in
     rw c.no_text.ensures (told_none _ _ (ap length (words-none _ c.if-number-le11.false m.0.1 m.1)))
