@@ -14,7 +14,7 @@ class Tree:
 
     def __init__(self):
         listed = (line.split(":") for line in (ROOT / "crates.txt").read_text().splitlines() if ":" in line)
-        self.below = {crate: rest.split() for crate, rest in listed}
+        self.below = {head.split()[0]: rest.split() for head, rest in listed}
         self.crates = [crate for crate in self.below if (ROOT / "crates" / crate).is_dir()]
         self.files, self.errors, self.kit, self.entered = {}, [], {}, set()
         self.specs = [self.file(crate, f"specs/{path}") for crate in self.crates for path in self.modules(crate)]
