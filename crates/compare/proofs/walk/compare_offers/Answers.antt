@@ -6,7 +6,6 @@ use native.Mathlib.Omega.{arith}
 use Rattle.compare.proofs.BookWalks.{Walk, walk_none, walk_more, walk-differ, walk_first, walk-second, walk-all}
 use borrow.Author.Tests.{not-true, not-false}
 use Rattle.compare.proofs.walk.compare_offers.Goals as goal
-use Rattle.compare.proofs.walk.compare_offers.Goals.{At-loop-i}
 
 pub next_row-i-requires : goal.next_row-i-requires
 next_row-i-requires c = (c.requires.0, omega arith)
@@ -63,8 +62,8 @@ pub loop-i-preserved : goal.loop-i-preserved
 loop-i-preserved c =
     rw (add-one c.loop-i.shared)
     (walk_more _ _ _ _ _ _ _ _ c.loop-i.invariant _ _ _ c.loop-i-test.true c.if-m-j.false
-    c.same_rows.ensures c.if-not-same_rows.false (rw (add-one c.loop-i.i) (goal.at.loop-i-preserved c).At-loop-i c.next_row-i-in-loop-i.ensures)
-    (rw (add-one c.loop-i.j) (goal.at.loop-i-preserved c).At-loop-i c.next_row-j-in-loop-i.ensures))
+    c.same_rows.ensures c.if-not-same_rows.false (rw (add-one c.loop-i.i) at c.next_row-i-in-loop-i.ensures)
+    (rw (add-one c.loop-i.j) at c.next_row-j-in-loop-i.ensures))
 
 pub overflow_cast-result-then-j-m : goal.overflow_cast-result-then-j-m
 overflow_cast-result-then-j-m c = omega (arith, c.loop-i.invariant.most', c.requires.1.few)
