@@ -4,7 +4,6 @@ use mathlib.Core.Path.{◌≡◌, sym, ◌∙◌}
 use Rattle.call.specs.Answer.{answer_of}
 use Rattle.call.specs.declared.Answer.TheVariants.{Cleared as Answer-as-Cleared}
 use Rattle.compare.proofs.Compared.{first-refused, first-accepted, first-cleared}
-use borrow.Author.Rules.{rules}
 use Rattle.compare.proofs.compare.Goals as goal
 use Rattle.compare.proofs.compare.Goals.{In-Cleared}
 

@@ -4,7 +4,6 @@ use mathlib.Core.Path.{◌≡◌, sym, ◌∙◌}
 use Rattle.values.specs.declared.Verdict.TheVariants.{Passed}
 use Rattle.book.specs.Faults.{first_fault}
 use Rattle.compare.proofs.Compared.{against-refused, against-none, against-priced}
-use borrow.Author.Rules.{rules}
 use Rattle.compare.proofs.compare_against.Goals as goal
 use Rattle.compare.proofs.compare_against.Goals.{In_default}
 

@@ -7,7 +7,6 @@ use Rattle.layout.specs.Read.{contents_of}
 use Rattle.layout.proofs.Contained.{contents-parameters}
 use Rattle.compare.specs.Same.{field_apart}
 use Rattle.compare.proofs.Compared.{accepted-long, accepted-inside, parameters-differ, offers-own, offers-decide}
-use borrow.Author.Rules.{rules}
 use Rattle.compare.proofs.compare_to.Goals as goal
 use Rattle.compare.proofs.compare_to.Goals.{After-field_apart-field}
 

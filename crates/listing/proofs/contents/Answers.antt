@@ -8,7 +8,6 @@ use Rattle.layout.specs.Read.{contents_of}
 use Rattle.layout.proofs.Contained.{contents-edition, contents-parameters, contents-count}
 use Rattle.listing.specs.Listed.{read_fault}
 use Rattle.listing.proofs.Listings.{passed-long, contents-refused, contents-passed}
-use borrow.Author.Rules.{rules}
 use Rattle.listing.proofs.contents.Goals as goal
 use Rattle.listing.proofs.contents.Goals.{After-parameters_in, In_default}
 

@@ -1,6 +1,5 @@
 -- `contents_out` shows the parameters, value by value.
 -- Assumes nothing.
-use borrow.Author.Rules.{rules}
 use Rattle.listing.proofs.contents_out.Goals as goal
 
 pub returns : goal.returns

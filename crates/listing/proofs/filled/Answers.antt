@@ -1,7 +1,6 @@
 -- `filled` counts the entries that are filled, by what is answered.
 -- Assumes nothing.
 use Rattle.listing.proofs.Listings.{filled-given, filled-refused}
-use borrow.Author.Rules.{rules}
 use Rattle.listing.proofs.filled.Goals as goal
 
 pub returns-then-c-eq1 : goal.returns-then-c-eq1

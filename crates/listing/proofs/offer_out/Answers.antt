@@ -1,6 +1,5 @@
 -- `offer_out` shows the values of an offer, field by field.
 -- Assumes nothing.
-use borrow.Author.Rules.{rules}
 use Rattle.listing.proofs.offer_out.Goals as goal
 
 pub returns : goal.returns

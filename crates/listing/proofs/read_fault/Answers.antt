@@ -7,7 +7,6 @@ use Rattle.layout.proofs.Passing.{form-passed-length}
 use Rattle.layout.proofs.Contained.{contents-count}
 use native.Mathlib.Omega.{arith}
 use Rattle.listing.proofs.Listings.{read-formless, read_short, read-passed}
-use borrow.Author.Rules.{rules}
 use Rattle.listing.proofs.read_fault.Goals as goal
 use Rattle.listing.proofs.read_fault.Goals.{In_default}
 

@@ -3,7 +3,6 @@
 use mathlib.Core.Path.{◌∙◌}
 use native.Mathlib.Omega.{arith}
 use Rattle.listing.proofs.Listings.{row-headed, row_inside, row_read}
-use borrow.Author.Rules.{rules}
 use Rattle.listing.proofs.row_at.Goals as goal
 
 pub row_bytes-requires : goal.row_bytes-requires

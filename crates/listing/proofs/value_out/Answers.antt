@@ -1,6 +1,5 @@
 -- `value_out` shows a value, case by case.
 -- Assumes nothing.
-use borrow.Author.Rules.{rules}
 use Rattle.listing.proofs.value_out.Goals as goal
 
 pub returns-in-Given : goal.returns-in-Given

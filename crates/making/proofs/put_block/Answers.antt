@@ -1,7 +1,6 @@
 -- `put_block` puts what opens a block of rows and zeros where nothing stands, and seals it.
 -- Assumes nothing.
 use Rattle.making.proofs.Fields.{put-block}
-use borrow.Author.Rules.{rules}
 use Rattle.making.proofs.put_block.Goals as goal
 
 pub returns : goal.returns

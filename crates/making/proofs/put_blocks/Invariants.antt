@@ -1,14 +1,10 @@
 -- `put_blocks` makes a block a turn. The loop's invariant: so many blocks are made.
 -- Assumes nothing.
-use mathlib.Core.Path.{refl, ap, ◌∙◌}
-use Rattle.making.proofs.Fields.{blocks-none, blocks_more}
 use mathlib.Core.Path.{◌≡◌}
 use Prim.Native.Nat.{◌-◌, ◌≤◌}
 use lib.ListN.{length}
 use Rattle.making.specs.inner.Made.{blocks_made}
 use Rattle.sections.specs.Section.{blocks_for}
-use native.Mathlib.Omega.{arith}
-use borrow.Author.Rules.{rules}
 use Rattle.making.proofs.put_blocks.Given as goal
 
 abbrev pub invariant-loop-j : goal.invariant-loop-j

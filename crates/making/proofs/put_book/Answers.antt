@@ -5,7 +5,6 @@ use Rattle.sections.specs.Section.{blocks_for}
 use Prim.Native.Nat.{ℕ}
 use mathlib.Core.List.{List}
 use mathlib.Core.Path.{ap, ◌∙◌}
-use borrow.Author.Rules.{rules}
 use Rattle.making.proofs.put_book.Goals as goal
 
 pub returns : goal.returns

@@ -1,7 +1,6 @@
 -- `put_opening` puts what block 0 says field by field.
 -- Assumes nothing.
 use Rattle.making.proofs.Fields.{put-opening}
-use borrow.Author.Rules.{rules}
 use Rattle.making.proofs.put_opening.Goals as goal
 
 pub returns : goal.returns

@@ -6,7 +6,6 @@ use Rattle.encoding.specs.Numbers.{zeros}
 use Rattle.places.specs.inner.Put.{put}
 use Rattle.making.proofs.Zeros.{unused-none}
 use native.Mathlib.Omega.{arith}
-use borrow.Author.Rules.{rules}
 use Rattle.making.proofs.put_unused.Goals as goal
 
 pub returns-then-here-eq-PLACES : goal.returns-then-here-eq-PLACES

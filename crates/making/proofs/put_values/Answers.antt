@@ -1,7 +1,6 @@
 -- `put_values` puts C, E, F and R one behind the other.
 -- Assumes nothing.
 use Rattle.making.proofs.Fields.{put-values}
-use borrow.Author.Rules.{rules}
 use Rattle.making.proofs.put_values.Goals as goal
 
 pub returns : goal.returns

@@ -1,8 +1,7 @@
 -- `put_zeros` puts a zero a turn. The loop's invariant: so many zeros stand behind the place.
 -- Assumes nothing.
 use mathlib.Core.Path.{◌≡◌, refl, ap, ◌∙◌}
-use Prim.Native.Nat.{ℕ, ◌-◌, ◌≤◌}
-use lib.ListN.{length}
+use Prim.Native.Nat.{ℕ, ◌-◌}
 use native.Mathlib.Omega.{arith}
 use borrow.Author.Rules.{rules}
 use Rattle.encoding.specs.Numbers.{zeros}

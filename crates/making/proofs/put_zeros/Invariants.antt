@@ -1,13 +1,10 @@
 -- `put_zeros` puts a zero a turn. The loop's invariant: so many zeros stand behind the place.
 -- Assumes nothing.
-use mathlib.Core.Path.{◌≡◌, refl, ap, ◌∙◌}
-use Prim.Native.Nat.{ℕ, ◌-◌, ◌≤◌}
+use mathlib.Core.Path.{◌≡◌}
+use Prim.Native.Nat.{◌-◌, ◌≤◌}
 use lib.ListN.{length}
-use native.Mathlib.Omega.{arith}
-use borrow.Author.Rules.{rules}
 use Rattle.encoding.specs.Numbers.{zeros}
 use Rattle.places.specs.inner.Put.{put}
-use Rattle.making.proofs.Zeros.{zeros-none, zeros-more}
 use Rattle.making.proofs.put_zeros.Given as goal
 
 abbrev pub invariant-loop-i : goal.invariant-loop-i

@@ -2,8 +2,6 @@
 -- Assumes nothing.
 use Rattle.sections.proofs.Parts.{part-from}
 use Rattle.making.proofs.Fields.{put-sums}
-use mathlib.Core.Path.{refl}
-use borrow.Author.Rules.{rules}
 use Rattle.making.proofs.seal.Goals as goal
 
 pub returns : goal.returns

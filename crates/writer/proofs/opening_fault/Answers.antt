@@ -1,8 +1,8 @@
 -- `opening_fault` tests the edition, the count and the parameters in their order.
 -- Assumes nothing.
-use mathlib.Core.Path.{◌≡◌, refl, sym, ◌∙◌}
+use mathlib.Core.Path.{refl, sym, ◌∙◌}
 use borrow.Author.Rules.{rules}
-use borrow.Author.Tests.{not-true, not-false, lt-leb, le-leb}
+use borrow.Author.Tests.{lt-leb, le-leb}
 use Rattle.writer.specs.inner.Opening.{opening_fault}
 use Rattle.writer.proofs.opening_fault.Goals as goal
 

@@ -2,7 +2,6 @@
 -- Assumes nothing.
 use mathlib.Core.Path.{sym, ◌∙◌}
 use Rattle.laws.proofs.Cases.{cond-true, cond-false}
-use borrow.Author.Rules.{rules}
 use Rattle.compare.proofs.same.apart.Goals as goal
 
 pub returns-then-same_value : goal.returns-then-same_value

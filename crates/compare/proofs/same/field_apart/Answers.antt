@@ -1,7 +1,6 @@
 -- `field_apart` asks field after field, the last first, so that the first that differs decides.
 -- Assumes nothing.
 use Rattle.compare.proofs.Sames.{field-later, field-year}
-use borrow.Author.Rules.{rules}
 use Rattle.compare.proofs.same.field_apart.Goals as goal
 
 pub returns-then-p-other : goal.returns-then-p-other

@@ -1,6 +1,5 @@
 -- `is_number` compares the number of a given value, and a missing one has none.
 -- Assumes nothing.
-use borrow.Author.Rules.{rules}
 use Rattle.compare.proofs.same.is_number.Goals as goal
 
 pub returns-in-Given : goal.returns-in-Given

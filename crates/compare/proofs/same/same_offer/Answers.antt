@@ -1,7 +1,6 @@
 -- `same_offer` joins the seven tests.
 -- Assumes nothing.
 use Rattle.compare.proofs.Sames.{offer-tests}
-use borrow.Author.Rules.{rules}
 use Rattle.compare.proofs.same.same_offer.Goals as goal
 
 pub returns : goal.returns

@@ -1,6 +1,5 @@
 -- `same_value` compares values case by case.
 -- Assumes nothing.
-use borrow.Author.Rules.{rules}
 use Rattle.compare.proofs.same.same_value.Goals as goal
 
 pub returns-in-Given : goal.returns-in-Given

@@ -3,8 +3,7 @@
 use Prim.Native.Nat.{◌-◌}
 use native.Mathlib.Numerals.{add-one}
 use native.Mathlib.Omega.{arith}
-use Rattle.compare.proofs.BookWalks.{Walk, walk_none, walk_more, walk-differ, walk_first, walk-second, walk-all}
-use borrow.Author.Tests.{not-true, not-false}
+use Rattle.compare.proofs.BookWalks.{walk_none, walk_more, walk-differ, walk_first, walk-second, walk-all}
 use Rattle.compare.proofs.walk.compare_offers.Goals as goal
 
 pub next_row-i-requires : goal.next_row-i-requires
@@ -23,11 +22,10 @@ pub returns-then-m-j : goal.returns-then-m-j
 returns-then-m-j c = walk_first _ _ _ _ _ _ _ _ c.loop-i.invariant c.loop-i-test.true c.if-m-j.true
 
 pub same_rows-requires : goal.same_rows-requires
-same_rows-requires c =
-    (
-      c.requires.0.within c.loop-i.i c.loop-i-test.true,
-      c.requires.1.within c.loop-i.j c.if-m-j.false,
-    )
+same_rows-requires c = (
+  c.requires.0.within c.loop-i.i c.loop-i-test.true,
+  c.requires.1.within c.loop-i.j c.if-m-j.false,
+)
 
 pub overflow_cast-result-then-not-same_rows : goal.overflow_cast-result-then-not-same_rows
 overflow_cast-result-then-not-same_rows c = omega (arith, c.loop-i.invariant.most, c.requires.0.few)

@@ -1,10 +1,7 @@
 -- `compare_offers` walks both books from one row at or below the price to the next. The loop's invariant: all offers before agree.
 -- Assumes nothing.
 use Prim.Native.Nat.{◌-◌}
-use native.Mathlib.Numerals.{add-one}
-use native.Mathlib.Omega.{arith}
-use Rattle.compare.proofs.BookWalks.{Walk, walk_none, walk_more, walk-differ, walk_first, walk-second, walk-all}
-use borrow.Author.Tests.{not-true, not-false}
+use Rattle.compare.proofs.BookWalks.{Walk}
 use Rattle.compare.proofs.walk.compare_offers.Given as goal
 
 abbrev pub invariant-loop-i : goal.invariant-loop-i

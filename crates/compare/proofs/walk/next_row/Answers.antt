@@ -10,8 +10,7 @@ use Rattle.layout.specs.Form.{edition_of}
 use Rattle.layout.specs.Read.{row_offers}
 use Rattle.layout.proofs.Contained.{length-row_offers, offer_at-row_offers}
 use Rattle.call.specs.Losers.{to_price}
-use Rattle.compare.proofs.Walks.{Passed, passed_none, passed-more, next_here, next-none}
-use borrow.Author.Rules.{rules}
+use Rattle.compare.proofs.Walks.{passed_none, passed-more, next_here, next-none}
 use Rattle.compare.proofs.walk.next_row.Goals as goal
 use Rattle.compare.proofs.walk.next_row.Goals.{After-to_price}
 

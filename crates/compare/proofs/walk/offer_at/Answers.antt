@@ -3,7 +3,6 @@
 use mathlib.Core.Path.{ap₂, ◌∙◌}
 use Rattle.values.specs.Place.{offer_of}
 use Rattle.layout.specs.Read.{row_offer}
-use borrow.Author.Rules.{rules}
 use Rattle.compare.proofs.walk.offer_at.Goals as goal
 
 pub returns : goal.returns

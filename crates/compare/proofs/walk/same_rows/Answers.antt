@@ -2,7 +2,6 @@
 -- Assumes nothing.
 use mathlib.Core.Path.{ap₂, ◌∙◌}
 use Rattle.compare.specs.Same.{same_offer}
-use borrow.Author.Rules.{rules}
 use Rattle.compare.proofs.walk.same_rows.Goals as goal
 
 pub returns : goal.returns

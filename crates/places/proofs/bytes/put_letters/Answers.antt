@@ -3,7 +3,6 @@
 use lib.ListN.{length-set}
 use Rattle.places.proofs.Puts.{put_four}
 use native.Mathlib.Omega.{arith}
-use borrow.Author.Rules.{rules}
 use Rattle.places.proofs.bytes.put_letters.Goals as goal
 
 pub bounds-b-at-2 : goal.bounds-b-at-2

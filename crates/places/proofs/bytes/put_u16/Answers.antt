@@ -5,7 +5,6 @@ use Rattle.encoding.specs.Numbers.{u16_bytes}
 use lib.ListN.{length-set}
 use Rattle.places.proofs.Puts.{put-pair}
 use native.Mathlib.Omega.{arith}
-use borrow.Author.Rules.{rules}
 use Rattle.places.proofs.bytes.put_u16.Goals as goal
 
 pub bounds-b-at-2 : goal.bounds-b-at-2

@@ -1,7 +1,6 @@
 -- `put_u32` puts two halves of 16 bits.
 -- Assumes nothing.
 use Rattle.places.proofs.Fields.{put-u32}
-use borrow.Author.Rules.{rules}
 use Rattle.places.proofs.bytes.put_u32.Goals as goal
 
 pub returns : goal.returns

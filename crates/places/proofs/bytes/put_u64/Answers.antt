@@ -1,7 +1,6 @@
 -- `put_u64` puts two halves of 32 bits.
 -- Assumes nothing.
 use Rattle.places.proofs.Fields.{put-u64}
-use borrow.Author.Rules.{rules}
 use Rattle.places.proofs.bytes.put_u64.Goals as goal
 
 pub returns : goal.returns

@@ -2,7 +2,6 @@
 -- Assumes nothing.
 use Rattle.places.specs.inner.Put.{put}
 use mathlib.Core.Path.{ap, ◌∙◌}
-use borrow.Author.Rules.{rules}
 use Rattle.places.proofs.bytes.put_value.Goals as goal
 
 pub returns : goal.returns

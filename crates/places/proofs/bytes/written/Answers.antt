@@ -1,7 +1,6 @@
 -- `written` gives the number that a value is written as: its own, and 0 where it is missing.
 -- Assumes nothing.
 use mathlib.Core.Path.{sym, ap, ◌∙◌}
-use borrow.Author.Rules.{rules}
 use Rattle.values.specs.declared.Value.TheVariants.{Missing}
 use Rattle.encoding.specs.Numbers.{value_bytes}
 use Rattle.encoding.proofs.Values.{value_bytes-written}

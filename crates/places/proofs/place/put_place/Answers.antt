@@ -2,7 +2,6 @@
 -- Assumes nothing.
 use native.Mathlib.Omega.{arith}
 use Rattle.places.proofs.Fields.{put-place}
-use borrow.Author.Rules.{rules}
 use Rattle.places.proofs.place.put_place.Goals as goal
 
 pub returns : goal.returns

@@ -2,7 +2,6 @@
 -- Assumes nothing.
 use mathlib.Core.Path.{sym, ◌∙◌}
 use borrow.Author.Rules.{rules}
-use borrow.Author.Tests.{not-true, not-false}
 use Rattle.places.proofs.Fields.{step_small, row-left, row_put}
 use Rattle.places.proofs.place.put_row.Goals as goal
 

@@ -1,6 +1,5 @@
 -- `offer_in` reads a row, value by value.
 -- Assumes nothing.
-use borrow.Author.Rules.{rules}
 use Rattle.plain.proofs.given.offer_in.Goals as goal
 
 pub returns : goal.returns

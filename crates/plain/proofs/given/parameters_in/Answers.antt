@@ -1,6 +1,5 @@
 -- `parameters_in` reads the parameters, value by value.
 -- Assumes nothing.
-use borrow.Author.Rules.{rules}
 use Rattle.plain.proofs.given.parameters_in.Goals as goal
 
 pub returns : goal.returns

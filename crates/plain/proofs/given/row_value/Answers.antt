@@ -2,7 +2,6 @@
 -- Assumes nothing.
 use mathlib.Core.Path.{ap, ◌∙◌}
 use Rattle.values.specs.declared.Value.TheVariants.{Given}
-use borrow.Author.Rules.{rules}
 use Rattle.plain.proofs.Shows.{value-missing, value-chosen}
 use Rattle.plain.proofs.given.row_value.Goals as goal
 

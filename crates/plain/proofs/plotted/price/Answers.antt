@@ -1,6 +1,5 @@
 -- `plotted::price` shows a price of the curve, case by case.
 -- Assumes nothing.
-use borrow.Author.Rules.{rules}
 use Rattle.plain.proofs.plotted.price.Goals as goal
 
 pub returns-in-Price : goal.returns-in-Price
