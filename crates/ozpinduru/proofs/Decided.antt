@@ -5,15 +5,8 @@ use mathlib.Core.Path.{◌≡◌, sym, ap, ◌∙◌}
 use mathlib.Core.List.{List}
 use Prim.Native.Nat.{ℕ}
 use lib.ListN.{length}
-use seplogic.Ra.Ura.{Ura}
-use base.Logic.{SProp, ent, emp}
-use prog.Memory.{Memory}
-use prog.Routine.{Routine}
-use types.Logic.{Logic}
 use contract.Lifetimes.{Lfts}
-use contract.Monad.{Fun, conj, fact, fact_i, guard-conj, conj-guard}
 use denote.Ref.{Bor, MutBor}
-use denote.Triple.Clauses.{at_exit}
 use Rattle.layout.specs.Read.{contents_of}
 use Rattle.call.specs.Answer.{answer_of}
 use Rattle.report.specs.Report.{report_text}
@@ -42,8 +35,8 @@ use Rattle.ozpinduru.proofs.export.ozp_version.Reads as ozp-version
 use Rattle.ozpinduru.proofs.texts.ozp_report.Reads as ozp-report
 use Rattle.ozpinduru.proofs.converted.ozp_convert.Reads as ozp-convert
 use Rattle.ozpinduru.proofs.texts.ozp_words.Reads as ozp-words
-use Rattle.ozpinduru.specs.contracts.read.ozp_read as ozp-read
-use Rattle.ozpinduru.specs.contracts.write.ozp_write as ozp-write
+use Rattle.ozpinduru.proofs.read.ozp_read.Reads as ozp-read
+use Rattle.ozpinduru.proofs.write.ozp_write.Reads as ozp-write
 
 -- what is returned and left in both buffers, by what a `Returned` says of the same book and buffers
 returned-same : (b cleared committed : List ℕ) (r s : OzpAnswer) (cleared₁ committed₁ cleared₂ committed₂ : List ℕ)
@@ -125,39 +118,24 @@ read_same : (b : List ℕ) (rows : List OzpRow) (r s : OzpContents) (rows₁ row
     → (r ≡ s) × (rows₁ ≡ rows₂)
 read_same b rows r s rows₁ rows₂ x y = (x.contents ∙ sym y.contents, x.filled ∙ sym y.filled)
 
-module _ {M : Type 1} {𝓤 : Ura M} (𝓛 : Logic 𝓤) (mem : Memory → SProp 𝓤) (run : Routine → Fun 𝓤)
-    (κs : Lfts 2) where
-  -- what the contract of `ozp_read`, which speaks as the walk by hand does, says of what is returned and of the array at exit
-  abbrev Promised : Bor (List ℕ) → Bor (List OzpRow) → OzpContents → List OzpRow → SProp 𝓤
-  Promised book rows r rows' =
-      (ozp-read.clauses 𝓛 mem run κs (book, (rows, tt))).ensures tt r (at_exit ozp-read.ended κs (book, (rows, tt)) (tt, (rows', tt)))
-
-  -- where it says both of the same bytes and entries, both are the same: what is returned, and the array
-  pub ozp-read-decided : (book₁ book₂ : Bor (List ℕ)) (rows₁ rows₂ : Bor (List OzpRow)) (r s : OzpContents) (rows₁' rows₂' : List OzpRow)
-      → book₁.now ≡ book₂.now → rows₁.now ≡ rows₂.now
-      → ent 𝓤 (conj 𝓤 (Promised book₁ rows₁ r rows₁') (Promised book₂ rows₂ s rows₂')) (fact 𝓤 ((r ≡ s) × (rows₁' ≡ rows₂')))
-  ozp-read-decided book₁ book₂ rows₁ rows₂ r s rows₁' rows₂' e f =
-      guard-conj 𝓤 (Read book₁.now rows₁.now r rows₁') (emp 𝓤) (Promised book₂ rows₂ s rows₂')
-      (λ x. conj-guard 𝓤 (Read book₂.now rows₂.now s rows₂') (emp 𝓤) (emp 𝓤)
-      (λ y. fact_i 𝓤 _ _ (read_same book₁.now rows₁.now r s rows₁' rows₂' x (rw (e, f) y))))
+-- what is returned and left in the array, by the contract of `ozp_read`
+pub ozp-read-decided : (κs : Lfts 2) (book₁ book₂ : Bor (List ℕ)) (rows₁ rows₂ rows₁' rows₂' : MutBor (List OzpRow)) (r s : OzpContents)
+    → book₁.now ≡ book₂.now → rows₁.now ≡ rows₂.now
+    → ozp-read.Post κs (book₁, (rows₁, tt)) r (book₁, (rows₁', tt))
+    → ozp-read.Post κs (book₂, (rows₂, tt)) s (book₂, (rows₂', tt))
+    → (r ≡ s) × (rows₁'.now ≡ rows₂'.now)
+ozp-read-decided κs book₁ book₂ rows₁ rows₂ rows₁' rows₂' r s e f x y = read_same book₁.now rows₁.now _ _ _ _ x (rw (e, f) y)
 
 -- ---- a book in lent room
 
-module _ {M : Type 1} {𝓤 : Ura M} (𝓛 : Logic 𝓤) (mem : Memory → SProp 𝓤) (run : Routine → Fun 𝓤)
-    (κs : Lfts 2) (edition : ℕ) (p : OzpParameters) where
-  -- what the contract of `ozp_write`, which is walked by hand too, says of what is returned and of the room at exit
-  abbrev Written : Bor (List OzpRow) → Bor (List ℕ) → OzpText → List ℕ → SProp 𝓤
-  Written rows room r room' =
-      (ozp-write.clauses 𝓛 mem run κs (edition, (p, (rows, (room, tt))))).ensures tt r (at_exit ozp-write.ended κs (edition, (p, (rows, (room, tt)))) (tt, (tt, (tt, (room', tt)))))
-
-  -- where it says both of the same edition, parameters, entries and room, both are the same: what is returned, and the room
-  pub ozp-write-decided : (rows₁ rows₂ : Bor (List OzpRow)) (room₁ room₂ : MutBor (List ℕ)) (r s : OzpText) (room₁' room₂' : List ℕ)
-      → rows₁.now ≡ rows₂.now → room₁.now ≡ room₂.now
-      → ent 𝓤 (conj 𝓤 (Written rows₁ room₁ r room₁') (Written rows₂ room₂ s room₂')) (fact 𝓤 ((r ≡ s) × (room₁' ≡ room₂')))
-  ozp-write-decided rows₁ rows₂ room₁ room₂ r s room₁' room₂' e f =
-      guard-conj 𝓤 (Wrote (contents_in edition p rows₁.now) room₁.now r room₁') (emp 𝓤) (Written rows₂ room₂ s room₂')
-      (λ x. conj-guard 𝓤 (Wrote (contents_in edition p rows₂.now) room₂.now s room₂') (emp 𝓤) (emp 𝓤)
-      (λ y. fact_i 𝓤 _ _ (wrote-same (contents_in edition p rows₁.now) room₁.now r s room₁' room₂' x (rw (e, f) y))))
+-- what is returned and left in the room, by the contract of `ozp_write`
+pub ozp-write-decided : (κs : Lfts 2) (edition : ℕ) (p : OzpParameters) (rows₁ rows₂ : Bor (List OzpRow)) (room₁ room₂ room₁' room₂' : MutBor (List ℕ)) (r s : OzpText)
+    → rows₁.now ≡ rows₂.now → room₁.now ≡ room₂.now
+    → ozp-write.Post κs (edition, (p, (rows₁, (room₁, tt)))) r (edition, (p, (rows₁, (room₁', tt))))
+    → ozp-write.Post κs (edition, (p, (rows₂, (room₂, tt)))) s (edition, (p, (rows₂, (room₂', tt))))
+    → (r ≡ s) × (room₁'.now ≡ room₂'.now)
+ozp-write-decided κs edition p rows₁ rows₂ room₁ room₂ room₁' room₂' r s e f x y =
+    wrote-same (contents_in edition p rows₁.now) room₁.now _ _ _ _ x (rw (e, f) y)
 
 -- the book in the other edition and the room, by the contract of `ozp_convert`
 pub ozp-convert-decided : (κs : Lfts 2) (book₁ book₂ : Bor (List ℕ)) (room₁ room₂ room₁' room₂' : MutBor (List ℕ)) (r s : OzpText)

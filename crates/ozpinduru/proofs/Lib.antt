@@ -1,7 +1,5 @@
 pub mod Exports
-pub mod KeptArray
-pub mod RowArray
-pub mod Again
+pub mod Writing
 pub mod Decided
 pub mod Comparisons
 pub mod Conversions

@@ -1,0 +1,14 @@
+-- Each turn puts one row more.
+use Rattle.std.proofs.Common.{arith, ◌≤◌, ◌<◌, length, ◌≡◌, ap, sym, ◌∙◌, add-one}
+use Rattle.making.specs.inner.Made.{bytes_for}
+use Rattle.lent.proofs.Placing.{placed, placed-none, placed-next, length-placed}
+use Rattle.ozpinduru.proofs.write.put_rows.Goals as goal
+
+pub loop-i-init : goal.loop-i-init
+loop-i-init c = record { within = omega arith; stand = placed-none c.args.edition c.args.room.now c.args.rows.now }
+
+pub loop-i-preserved : goal.loop-i-preserved
+loop-i-preserved c = record {
+  within = omega arith;
+  stand = rw add-one (c.put_row.ensures ∙ rw c.loop-i.invariant.stand (placed-next c.args.edition c.args.room.now c.args.rows.now c.loop-i.i _ (omega arith)));
+}
