@@ -1,5 +1,5 @@
 pub mod Exports
-pub mod Writing
+mod Writing
 pub mod Decided
 pub mod Comparisons
 pub mod Conversions

@@ -1,7 +1,6 @@
 // What a book says, row by row, in a lent array of rows.
 //
-// A reference to a struct is walked by hand, so there is no branch here: one covered call says what is answered, one how many
-// entries are filled, and one fills an entry.
+// There is no branch here: one call says what is answered, one how many entries are filled, and one fills an entry.
 ghost use Rattle.listing.specs.Listed.{Read};
 
 use listing::{contents, filled, row_at};

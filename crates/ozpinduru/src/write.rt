@@ -1,7 +1,7 @@
 // A book of either edition written into lent room, of parameters and of rows in an array.
 //
-// A reference to a struct is walked by hand, so little is done here: covered calls say how many rows are tested and how many are
-// put, and do both with one row. Of few rows, as one block holds, less room is cleared for what is kept of them.
+// Little is done here: calls say how many rows are tested and how many are put, and do both with one row. Of few rows, as one block
+// holds, less room is cleared for what is kept of them.
 ghost use Rattle.std.specs.Prelude.{◌≡◌, map, ◌/◌, ◌≤◌, ◌<◌, length, take};
 ghost use Rattle.values.specs.declared.Verdict.TheVariants.{Passed};
 ghost use Rattle.making.specs.inner.Made.{bytes_for};

@@ -2,7 +2,6 @@
 -- Assumes nothing.
 use mathlib.Core.Path.{sym, ap, ◌∙◌}
 use Rattle.ozpinduru.specs.Compared.{compared_out}
-use borrow.Author.Rules.{rules}
 use Rattle.ozpinduru.proofs.compared.compared.Goals as goal
 
 pub returns-in-Applies : goal.returns-in-Applies

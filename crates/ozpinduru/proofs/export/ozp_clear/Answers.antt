@@ -2,7 +2,6 @@
 -- Assumes nothing.
 use mathlib.Core.Path.{◌∙◌, refl}
 use Rattle.ozpinduru.proofs.Exports.{shown-call}
-use borrow.Author.Rules.{rules}
 use Rattle.ozpinduru.proofs.export.ozp_clear.Goals as goal
 
 pub returns : goal.returns

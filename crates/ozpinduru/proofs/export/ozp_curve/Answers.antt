@@ -2,7 +2,6 @@
 -- Assumes nothing.
 use mathlib.Core.Path.{◌∙◌}
 use Rattle.ozpinduru.proofs.Exports.{given-ranged, curve-refused, curve-made}
-use borrow.Author.Rules.{rules}
 use Rattle.ozpinduru.proofs.export.ozp_curve.Goals as goal
 
 pub returns-in-Refused : goal.returns-in-Refused

@@ -1,7 +1,6 @@
 -- `ozp_make_whole` pays by the kind of an answer.
 -- Assumes nothing.
 use mathlib.Core.Path.{◌∙◌}
-use borrow.Author.Rules.{rules}
 use Rattle.ozpinduru.proofs.Exports.{whole-priced, whole-unpriced, whole-neither}
 use Rattle.ozpinduru.proofs.export.ozp_make_whole.Goals as goal
 

@@ -2,7 +2,6 @@
 -- Assumes nothing.
 use mathlib.Core.Path.{◌∙◌}
 use Rattle.ozpinduru.proofs.Exports.{given-ranged, price-refused, price-made}
-use borrow.Author.Rules.{rules}
 use Rattle.ozpinduru.proofs.export.ozp_price_at.Goals as goal
 
 pub returns-in-Refused : goal.returns-in-Refused

@@ -1,7 +1,6 @@
 -- `ozp_quote` shows what `quote` answers.
 -- Assumes nothing.
 use mathlib.Core.Path.{◌∙◌}
-use borrow.Author.Rules.{rules}
 use Rattle.ozpinduru.proofs.Exports.{shown-quote}
 use Rattle.ozpinduru.proofs.export.ozp_quote.Goals as goal
 

@@ -1,5 +1,5 @@
 -- Each turn fills the entry of one row that the book has, which lies in the array.
-use Rattle.std.proofs.Common.{arith, sym, ap, ◌≡◌, ◌∙◌, ◌<◌, ◌≤◌, length, length-set, add-one}
+use Rattle.std.proofs.Common.{arith, sym, ap, ◌≡◌, ◌∙◌, length, length-set, add-one}
 use Rattle.laws.proofs.Cases.{by_order}
 use Rattle.listing.specs.Listed.{row_out, rows_filled, exported_contents}
 use Rattle.listing.proofs.Listings.{entered-row, entered-entry, filled_none, filled_next}

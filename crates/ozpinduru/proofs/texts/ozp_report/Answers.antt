@@ -1,7 +1,6 @@
 -- `ozp_report` makes the report of a book, and puts it where it fits.
 -- Assumes nothing.
 use native.Mathlib.Omega.{arith}
-use borrow.Author.Rules.{rules}
 use Rattle.text.proofs.Puts.{written-taken}
 use Rattle.words.proofs.Telling.{told-as}
 use Rattle.ozpinduru.proofs.texts.ozp_report.Goals as goal

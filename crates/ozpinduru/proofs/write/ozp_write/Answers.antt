@@ -26,16 +26,16 @@ pub open_room-opened-requires : goal.open_room-opened-requires
 open_room-opened-requires c =
     open-asks c.args.edition c.args.parameters c.args.rows.now c.args.room.now _
     (elim c.if-rows-lt16.branch [
-      then-rows-lt16 w ↦ searched-by c.args.edition c.args.parameters c.args.rows.now w.test_rows-found.auto.kept (rw c.begin-begun.ensures at w.test_rows-found.ensures) (w.tested-is ∙ w.unrepeated-tested.ensures)
-    | else-rows-lt16 w ↦ searched-by c.args.edition c.args.parameters c.args.rows.now w.test_rows-found-else-rows-lt16.auto.kept (rw c.begin-begun.ensures at w.test_rows-found-else-rows-lt16.ensures) (w.tested-is ∙ w.unrepeated-tested-else-rows-lt16.ensures)
+      | then-rows-lt16 w ↦ searched-by c.args.edition c.args.parameters c.args.rows.now w.test_rows-found.auto.kept (rw c.begin-begun.ensures at w.test_rows-found.ensures) (w.tested-is ∙ w.unrepeated-tested.ensures)
+      | else-rows-lt16 w ↦ searched-by c.args.edition c.args.parameters c.args.rows.now w.test_rows-found-else-rows-lt16.auto.kept (rw c.begin-begun.ensures at w.test_rows-found-else-rows-lt16.ensures) (w.tested-is ∙ w.unrepeated-tested-else-rows-lt16.ensures)
     ])
 
 pub put_rows-requires : goal.put_rows-requires
 put_rows-requires c =
     put-asks c.args.edition c.args.parameters c.args.rows.now c.args.room.now _
     (elim c.if-rows-lt16.branch [
-      then-rows-lt16 w ↦ searched-by c.args.edition c.args.parameters c.args.rows.now w.test_rows-found.auto.kept (rw c.begin-begun.ensures at w.test_rows-found.ensures) (w.tested-is ∙ w.unrepeated-tested.ensures)
-    | else-rows-lt16 w ↦ searched-by c.args.edition c.args.parameters c.args.rows.now w.test_rows-found-else-rows-lt16.auto.kept (rw c.begin-begun.ensures at w.test_rows-found-else-rows-lt16.ensures) (w.tested-is ∙ w.unrepeated-tested-else-rows-lt16.ensures)
+      | then-rows-lt16 w ↦ searched-by c.args.edition c.args.parameters c.args.rows.now w.test_rows-found.auto.kept (rw c.begin-begun.ensures at w.test_rows-found.ensures) (w.tested-is ∙ w.unrepeated-tested.ensures)
+      | else-rows-lt16 w ↦ searched-by c.args.edition c.args.parameters c.args.rows.now w.test_rows-found-else-rows-lt16.auto.kept (rw c.begin-begun.ensures at w.test_rows-found-else-rows-lt16.ensures) (w.tested-is ∙ w.unrepeated-tested-else-rows-lt16.ensures)
     ])
     _ _ c.open_room-opened.ensures c.open_room-opened.auto.room
 
@@ -43,8 +43,8 @@ pub close_room-requires : goal.close_room-requires
 close_room-requires c =
     close-asks c.args.edition c.args.parameters c.args.rows.now c.args.room.now _
     (elim c.if-rows-lt16.branch [
-      then-rows-lt16 w ↦ searched-by c.args.edition c.args.parameters c.args.rows.now w.test_rows-found.auto.kept (rw c.begin-begun.ensures at w.test_rows-found.ensures) (w.tested-is ∙ w.unrepeated-tested.ensures)
-    | else-rows-lt16 w ↦ searched-by c.args.edition c.args.parameters c.args.rows.now w.test_rows-found-else-rows-lt16.auto.kept (rw c.begin-begun.ensures at w.test_rows-found-else-rows-lt16.ensures) (w.tested-is ∙ w.unrepeated-tested-else-rows-lt16.ensures)
+      | then-rows-lt16 w ↦ searched-by c.args.edition c.args.parameters c.args.rows.now w.test_rows-found.auto.kept (rw c.begin-begun.ensures at w.test_rows-found.ensures) (w.tested-is ∙ w.unrepeated-tested.ensures)
+      | else-rows-lt16 w ↦ searched-by c.args.edition c.args.parameters c.args.rows.now w.test_rows-found-else-rows-lt16.auto.kept (rw c.begin-begun.ensures at w.test_rows-found-else-rows-lt16.ensures) (w.tested-is ∙ w.unrepeated-tested-else-rows-lt16.ensures)
     ])
     _ _ c.open_room-opened.ensures c.open_room-opened.auto.room _ c.put_rows.auto.room
 
@@ -52,7 +52,7 @@ pub returns : goal.returns
 returns c =
     wrote c.args.edition c.args.parameters c.args.rows.now c.args.room.now _
     (elim c.if-rows-lt16.branch [
-      then-rows-lt16 w ↦ searched-by c.args.edition c.args.parameters c.args.rows.now w.test_rows-found.auto.kept (rw c.begin-begun.ensures at w.test_rows-found.ensures) (w.tested-is ∙ w.unrepeated-tested.ensures)
-    | else-rows-lt16 w ↦ searched-by c.args.edition c.args.parameters c.args.rows.now w.test_rows-found-else-rows-lt16.auto.kept (rw c.begin-begun.ensures at w.test_rows-found-else-rows-lt16.ensures) (w.tested-is ∙ w.unrepeated-tested-else-rows-lt16.ensures)
+      | then-rows-lt16 w ↦ searched-by c.args.edition c.args.parameters c.args.rows.now w.test_rows-found.auto.kept (rw c.begin-begun.ensures at w.test_rows-found.ensures) (w.tested-is ∙ w.unrepeated-tested.ensures)
+      | else-rows-lt16 w ↦ searched-by c.args.edition c.args.parameters c.args.rows.now w.test_rows-found-else-rows-lt16.auto.kept (rw c.begin-begun.ensures at w.test_rows-found-else-rows-lt16.ensures) (w.tested-is ∙ w.unrepeated-tested-else-rows-lt16.ensures)
     ])
     _ _ c.open_room-opened.ensures c.open_room-opened.auto.room _ c.put_rows.ensures c.close_room.ensures

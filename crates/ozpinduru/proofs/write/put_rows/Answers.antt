@@ -1,7 +1,6 @@
 -- Each turn puts one row more.
-use Rattle.std.proofs.Common.{arith, ◌≤◌, ◌<◌, length, ◌≡◌, ap, sym, ◌∙◌, add-one}
-use Rattle.making.specs.inner.Made.{bytes_for}
-use Rattle.lent.proofs.Placing.{placed, placed-none, placed-next, length-placed}
+use Rattle.std.proofs.Common.{arith, ◌∙◌, add-one}
+use Rattle.lent.proofs.Placing.{placed-none, placed-next}
 use Rattle.ozpinduru.proofs.write.put_rows.Goals as goal
 
 pub loop-i-init : goal.loop-i-init
