@@ -6,12 +6,6 @@ use Rattle.wording.proofs.Showing.{showing}
 use mir.Facts.{Fits-32_64}
 use Rattle.lines.proofs.sold.put_sold.Goals as goal
 
-pub overflow_cast-total : goal.overflow_cast-total
-overflow_cast-total c = Fits-32_64 c.struct_known-1.given.0
-
-pub slice_bounds-put_form-end-2 : goal.slice_bounds-put_form-end-2
-slice_bounds-put_form-end-2 c = refl
-
 pub returns : goal.returns
 returns c =
     showing _ _ c.put_form.ensures

@@ -5,9 +5,6 @@ use Rattle.rowlines.specs.Division.{division_numbers}
 use Rattle.wording.proofs.Showing.{showing}
 use Rattle.rowlines.proofs.division.put_division.Goals as goal
 
-pub slice_bounds-put_form-end-2 : goal.slice_bounds-put_form-end-2
-slice_bounds-put_form-end-2 c = refl
-
 pub returns : goal.returns
 unfolding division_numbers
 returns c =
