@@ -2,7 +2,6 @@
 -- Assumes nothing.
 use Rattle.lines.specs.Points.{net_cents}
 use native.Mathlib.Omega.{arith}
-use mir.Facts.{Fits-32_64}
 use Rattle.lines.proofs.Weights.{net-most}
 use Rattle.lines.proofs.points.net_cents.Goals as goal
 

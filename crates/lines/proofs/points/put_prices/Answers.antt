@@ -1,10 +1,7 @@
 -- `put_prices` puts a form that shows its numbers.
 -- Assumes nothing.
-use mathlib.Core.Path.{refl}
 use Rattle.lines.proofs.CurvePoints.{prices-are}
 use Rattle.wording.proofs.Showing.{showing}
-use mir.Facts.{Fits-32_64}
-use mir.Facts.{Fits-32_64}
 use Rattle.lines.proofs.points.put_prices.Goals as goal
 
 pub first_cents-requires : goal.first_cents-requires

@@ -1,10 +1,7 @@
 -- `put_quantities` puts a form that shows its numbers.
 -- Assumes nothing.
-use mathlib.Core.Path.{refl}
 use Rattle.lines.proofs.CurvePoints.{quantities-are}
 use Rattle.wording.proofs.Showing.{showing}
-use mir.Facts.{Fits-32_64}
-use borrow.Author.Rules.{rules}
 use Rattle.lines.proofs.points.put_quantities.Goals as goal
 
 pub returns : goal.returns

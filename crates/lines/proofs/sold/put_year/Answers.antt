@@ -3,7 +3,6 @@
 use mathlib.Core.Path.{refl}
 use Rattle.lines.specs.Sold.{year_numbers}
 use Rattle.wording.proofs.Showing.{showing}
-use borrow.Author.Rules.{rules}
 use Rattle.lines.proofs.sold.put_year.Goals as goal
 
 pub returns : goal.returns

@@ -1,7 +1,5 @@
 -- `put_stated` puts a form that shows its numbers.
 -- Assumes nothing.
-use mathlib.Core.Path.{refl}
-use mir.Facts.{Fits-32_64}
 use Rattle.wording.proofs.Showing.{showing}
 use Rattle.lines.proofs.Stating.{stated-are}
 use Rattle.lines.proofs.stated.put_stated.Goals as goal

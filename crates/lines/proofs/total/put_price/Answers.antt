@@ -1,9 +1,7 @@
 -- `put_price` puts a form that shows its numbers.
 -- Assumes nothing.
-use mathlib.Core.Path.{refl}
 use Rattle.lines.proofs.Answered.{price-are}
 use Rattle.wording.proofs.Showing.{showing}
-use mir.Facts.{Fits-32_64}
 use Rattle.lines.proofs.total.put_price.Goals as goal
 
 pub returns : goal.returns

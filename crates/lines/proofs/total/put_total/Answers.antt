@@ -1,9 +1,7 @@
 -- `put_total` puts a form that shows its numbers.
 -- Assumes nothing.
-use mathlib.Core.Path.{refl}
 use Rattle.lines.specs.Total.{total_numbers}
 use Rattle.wording.proofs.Showing.{showing}
-use mir.Facts.{Fits-32_64}
 use Rattle.lines.proofs.total.put_total.Goals as goal
 
 pub returns : goal.returns

@@ -1,6 +1,5 @@
 -- `put_division` puts a form that shows its numbers.
 -- Assumes nothing.
-use mathlib.Core.Path.{refl}
 use Rattle.rowlines.specs.Division.{division_numbers}
 use Rattle.wording.proofs.Showing.{showing}
 use Rattle.rowlines.proofs.division.put_division.Goals as goal

@@ -1,6 +1,5 @@
 -- `put_left_before` puts a form that shows its numbers.
 -- Assumes nothing.
-use mathlib.Core.Path.{refl}
 use Rattle.rowlines.specs.Division.{left_before_numbers}
 use Rattle.wording.proofs.Showing.{showing}
 use Rattle.rowlines.proofs.division.put_left_before.Goals as goal

@@ -1,9 +1,7 @@
 -- `put_left_behind` puts a form that shows its numbers.
 -- Assumes nothing.
-use mathlib.Core.Path.{refl}
 use Rattle.rowlines.specs.Division.{left_behind_numbers}
 use Rattle.wording.proofs.Showing.{showing}
-use borrow.Author.Rules.{rules}
 use Rattle.rowlines.proofs.division.put_left_behind.Goals as goal
 
 pub returns : goal.returns

@@ -1,10 +1,7 @@
 -- `put_place` puts a form that shows its numbers.
 -- Assumes nothing.
-use mathlib.Core.Path.{refl}
 use Rattle.rowlines.specs.Division.{place_numbers}
 use Rattle.wording.proofs.Showing.{showing}
-use mir.Facts.{Fits-32_64}
-use borrow.Author.Rules.{rules}
 use Rattle.rowlines.proofs.division.put_place.Goals as goal
 
 pub returns : goal.returns

@@ -1,10 +1,7 @@
 -- `put_offer` puts a form that shows its numbers.
 -- Assumes nothing.
-use mathlib.Core.Path.{refl}
 use Rattle.rowlines.proofs.RowNumbers.{offer-are}
 use Rattle.wording.proofs.Showing.{showing}
-use mir.Facts.{Fits-32_64}
-use borrow.Author.Rules.{rules}
 use Rattle.rowlines.proofs.rows.put_offer.Goals as goal
 
 pub returns : goal.returns

@@ -1,9 +1,7 @@
 -- `put_part` puts a form that shows its numbers.
 -- Assumes nothing.
-use mathlib.Core.Path.{refl}
 use Rattle.rowlines.specs.Rows.{part_numbers}
 use Rattle.wording.proofs.Showing.{showing}
-use mir.Facts.{Fits-32_64}
 use Rattle.rowlines.proofs.rows.put_part.Goals as goal
 
 pub returns : goal.returns

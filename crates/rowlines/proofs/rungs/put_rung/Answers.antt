@@ -1,9 +1,7 @@
 -- `put_rung` puts a form that shows its numbers.
 -- Assumes nothing.
-use mathlib.Core.Path.{refl}
 use Rattle.rowlines.specs.Levels.{rung_numbers}
 use Rattle.wording.proofs.Showing.{showing}
-use mir.Facts.{Fits-32_64}
 use Rattle.rowlines.proofs.rungs.put_rung.Goals as goal
 
 pub returns : goal.returns

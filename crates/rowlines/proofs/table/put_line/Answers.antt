@@ -1,14 +1,13 @@
 -- `put_line` puts a form that shows its numbers; a product of two numbers of 32 bits fits 64.
 -- Assumes nothing.
-use mathlib.Core.Path.{refl}
+use native.Mathlib.Omega.{arith}
 use Rattle.laws.proofs.Products.{product-below}
 use Rattle.rowlines.proofs.RowNumbers.{line-are}
 use Rattle.wording.proofs.Showing.{showing}
-use mir.Facts.{Fits-32_64}
 use Rattle.rowlines.proofs.table.put_line.Goals as goal
 
 pub overflow_mul-exact : goal.overflow_mul-exact
-overflow_mul-exact c = record { fits = product-below 32 c.struct_known-4-1.given.1.1.1.0.fits c.ranges.amount.fits }
+overflow_mul-exact c = grind (arith, product-below 32)
 
 pub overflow_mul-taken : goal.overflow_mul-taken
 overflow_mul-taken c = record { fits = product-below 32 c.ranges.cleared.fits c.ranges.sum.fits }

@@ -1,7 +1,5 @@
 -- `across` tells the numbers of a rival.
 -- Assumes nothing.
-use mir.Facts.{Fits-32_64}
-use borrow.Author.Rules.{rules}
 use Rattle.rowlines.proofs.turn.across.Goals as goal
 
 pub returns-in-Against : goal.returns-in-Against

@@ -1,6 +1,5 @@
 -- `put_turn` puts a form that shows its numbers.
 -- Assumes nothing.
-use mathlib.Core.Path.{refl}
 use Rattle.wording.proofs.Showing.{showing}
 use Rattle.rowlines.proofs.turn.put_turn.Goals as goal
 

@@ -1,7 +1,5 @@
 -- `turn_numbers` tells the numbers of a turn.
 -- Assumes nothing.
-use mir.Facts.{Fits-32_64}
-use borrow.Author.Rules.{rules}
 use Rattle.rowlines.specs.Turn.{turn_numbers}
 use Rattle.rowlines.proofs.turn.turn_numbers.Goals as goal
 
