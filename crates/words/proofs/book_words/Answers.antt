@@ -3,7 +3,6 @@
 use mathlib.Core.Path.{◌≡◌, sym, ap}
 use native.Mathlib.Omega.{arith}
 use lib.ListN.{length}
-use borrow.Author.Rules.{rules}
 use Rattle.words.specs.Words.{bytes_of, words_of}
 use Rattle.words.proofs.Telling.{told_none, told-as, words-known}
 use Rattle.words.proofs.book_words.Goals as goal

@@ -2,7 +2,6 @@
 -- Assumes nothing.
 use mathlib.Core.Path.{◌≡◌}
 use native.Mathlib.Omega.{arith}
-use borrow.Author.Rules.{rules}
 use Rattle.words.specs.Words.{bytes_of, words_of}
 use Rattle.words.proofs.Telling.{told-as, words-known}
 use Rattle.words.proofs.offer_words.Goals as goal

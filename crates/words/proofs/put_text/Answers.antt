@@ -1,6 +1,5 @@
 -- `put_text` puts a text that fits.
 -- Assumes nothing.
-use borrow.Author.Rules.{rules}
 use Rattle.words.proofs.Telling.{told_none, told-short, told-put}
 use Rattle.words.proofs.put_text.Goals as goal
 

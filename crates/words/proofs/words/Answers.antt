@@ -1,8 +1,8 @@
 -- `words` puts the words of a number by its range, and past 11 each arm its own.
 -- Assumes nothing.
 use mathlib.Core.Path.{ap}
+use native.Mathlib.Omega.{arith}
 use lib.ListN.{length}
-use borrow.Author.Rules.{rules}
 use Rattle.words.specs.Words.{bytes_of, words_of}
 use Rattle.words.proofs.Telling.{told_none, told-as, words-known, words-none}
 use Rattle.words.proofs.words.Goals as goal
@@ -17,5 +17,5 @@ returns-in-20 c = told-as (words-known c.in-20.is) c.put_text-in-20.ensures
 
 pub returns-in_default : goal.returns-in_default
 returns-in_default c =
-    let m = c.in_default.in_default-own.rest in
-    rw c.no_text.ensures (told_none _ _ (ap length (words-none _ c.if-number-le11.false m.0.1 m.1)))
+    rw c.no_text.ensures
+    (told_none _ _ (ap length (words-none c.args.number c.if-number-le11.false (omega arith) (omega arith))))

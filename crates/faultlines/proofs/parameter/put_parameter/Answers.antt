@@ -1,12 +1,8 @@
 -- `put_parameter` puts a form that shows its numbers.
 -- Assumes nothing.
-use mathlib.Core.Path.{refl}
 use Rattle.faultlines.specs.Refused.{parameter_numbers}
 use Rattle.wording.proofs.Showing.{showing}
 use Rattle.faultlines.proofs.parameter.put_parameter.Goals as goal
-
-pub slice_bounds-put_form-end-2 : goal.slice_bounds-put_form-end-2
-slice_bounds-put_form-end-2 c = refl
 
 pub returns : goal.returns
 unfolding parameter_numbers

@@ -1,12 +1,8 @@
 -- `put_length` puts a form that shows its numbers.
 -- Assumes nothing.
-use mathlib.Core.Path.{refl}
 use Rattle.faultlines.specs.Refused.{length_numbers}
 use Rattle.wording.proofs.Showing.{showing}
 use Rattle.faultlines.proofs.refused.put_length.Goals as goal
-
-pub slice_bounds-put_form-end-2 : goal.slice_bounds-put_form-end-2
-slice_bounds-put_form-end-2 c = refl
 
 pub returns : goal.returns
 unfolding length_numbers

@@ -2,12 +2,8 @@
 -- Assumes nothing.
 use mathlib.Core.Path.{ap}
 use mathlib.Core.Bool.{Bool, not}
-use mir.Facts.{Fits-32_64}
 use Rattle.wording.specs.Words.{as_one}
 use Rattle.faultlines.proofs.wrong.beside.Goals as goal
-
-pub overflow_cast-result-2 : goal.overflow_cast-result-2
-overflow_cast-result-2 c = Fits-32_64 (record { fits = c.number_held.type-inv })
 
 pub returns : goal.returns
 returns c =

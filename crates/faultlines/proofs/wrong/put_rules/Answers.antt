@@ -5,9 +5,6 @@ use Rattle.faultlines.specs.Wrong.{rules_numbers}
 use Rattle.wording.proofs.Showing.{showing}
 use Rattle.faultlines.proofs.wrong.put_rules.Goals as goal
 
-pub slice_bounds-put_form-end-2 : goal.slice_bounds-put_form-end-2
-slice_bounds-put_form-end-2 c = refl
-
 pub returns : goal.returns
 unfolding rules_numbers
 returns c = showing _ _ c.put_form.ensures refl

@@ -1,10 +1,7 @@
 -- `put_form` puts what one byte shows a turn; what is left of the form, with what is left of the numbers, is the rest of its text.
 -- Assumes nothing.
-use Prim.Native.Nat.{◌-◌}
 use native.Mathlib.Omega.{arith}
-use lib.ListN.{length}
-use borrow.Author.Rules.{rules}
-use Rattle.forms.proofs.Fillings.{Passing, passing-none, passing-more, passing-all}
+use Rattle.forms.proofs.Fillings.{passing-none, passing-more, passing-all}
 use Rattle.forms.proofs.form.put_form.Goals as goal
 
 pub loop-i-init : goal.loop-i-init

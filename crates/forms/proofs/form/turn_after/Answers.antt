@@ -1,7 +1,6 @@
 -- `turn_after` tries the ends of a choice and the bar, and reads the list where it has the place.
 -- Assumes nothing.
 use mathlib.Core.Path.{sym}
-use borrow.Author.Rules.{rules}
 use borrow.Author.Tests.{eq-eqb, ne_eqb}
 use Rattle.forms.specs.Form.{turn_after}
 use Rattle.forms.proofs.Fillings.{first_some, first-none}

@@ -1,7 +1,6 @@
 -- `width_after` tries the bar below and the marks of numbers.
 -- Assumes nothing.
 use native.Mathlib.Omega.{arith}
-use borrow.Author.Rules.{rules}
 use borrow.Author.Tests.{eq-eqb, ne_eqb}
 use Rattle.forms.specs.Form.{width_after}
 use Rattle.forms.proofs.form.width_after.Goals as goal

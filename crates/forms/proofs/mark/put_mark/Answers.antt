@@ -2,7 +2,6 @@
 -- Assumes nothing.
 use mathlib.Core.Path.{sym, ◌∙◌}
 use native.Mathlib.Omega.{arith}
-use borrow.Author.Rules.{rules}
 use Rattle.forms.specs.Mark.{is_silent}
 use Rattle.forms.proofs.Puts.{put-none}
 use Rattle.forms.proofs.Fillings.{byte-hidden, byte-number, byte-plain}

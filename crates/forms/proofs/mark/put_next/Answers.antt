@@ -3,7 +3,6 @@
 use mathlib.Core.Path.{refl}
 use native.Mathlib.Omega.{arith}
 use lib.ListN.{get_or, replicate}
-use borrow.Author.Rules.{rules}
 use Rattle.forms.specs.Mark.{mark_text}
 use Rattle.forms.proofs.Numbers.{Made, mark_made}
 use Rattle.forms.proofs.Fillings.{next-none, next-some}
@@ -22,10 +21,13 @@ made : (c : After-put_text-end) →
     Made (mark_text a.mark (get_or a.numbers.now a.used 0)) c.put_text-end.new.room c.put_text-end.result
 made c =
     let a = c.args in
-    mark_made (replicate 64 0) _ _ refl (omega (arith, c.shared_slice_known-2-1.given a.used)) c.put_text-end.ensures
+    mark_made (replicate 64 0) _ _ refl (omega arith) c.put_text-end.ensures
 
 pub slice_bounds-text-end : goal.slice_bounds-text-end
 slice_bounds-text-end c = (made (goal.at.slice_bounds-text-end c).After-put_text-end).within
+
+pub slice_bounds-put_right-end-2 : goal.slice_bounds-put_right-end-2
+slice_bounds-put_right-end-2 c = (made (goal.at.slice_bounds-put_right-end-2 c).After-put_text-end).counted
 
 pub returns : goal.returns
 returns c =

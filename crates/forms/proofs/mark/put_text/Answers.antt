@@ -3,7 +3,6 @@
 use native.Mathlib.Nat.{le_refl}
 use native.Mathlib.Omega.{arith}
 use lib.ListN.{replicate}
-use borrow.Author.Rules.{rules}
 use Rattle.forms.proofs.Numbers.{text-separated, plain-front, plain_end}
 use Rattle.forms.proofs.mark.put_text.Goals as goal
 

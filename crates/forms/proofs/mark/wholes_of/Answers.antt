@@ -1,6 +1,5 @@
 -- `wholes_of` counts no digit for `#`, and leaves out the point and what is behind it.
 -- Assumes nothing.
-use borrow.Author.Rules.{rules}
 use borrow.Author.Tests.{eq-eqb, ne_eqb}
 use Rattle.forms.specs.inner.Plain.{wholes}
 use Rattle.forms.proofs.mark.wholes_of.Goals as goal

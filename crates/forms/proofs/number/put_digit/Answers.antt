@@ -2,7 +2,6 @@
 -- Assumes nothing.
 use mathlib.Core.List.{[], ◌∷◌}
 use native.Mathlib.Omega.{arith}
-use borrow.Author.Rules.{rules}
 use Rattle.forms.specs.Number.{comma}
 use Rattle.forms.proofs.Puts.{put-put}
 use Rattle.forms.proofs.number.put_digit.Goals as goal

@@ -3,7 +3,6 @@
 use Prim.Native.Nat.{◌≤◌}
 use native.Mathlib.Nat.{min-eq_left}
 use native.Mathlib.Omega.{arith}
-use borrow.Author.Rules.{rules}
 use borrow.Author.Tests.{eq-eqb, ne_eqb}
 use Rattle.forms.specs.inner.Plain.{plain_text}
 use Rattle.forms.proofs.number.spell.Goals as goal

@@ -6,7 +6,6 @@ use Prim.Native.Nat.{ℕ, ◌+◌, ◌-◌, ◌≤◌, ◌<◌}
 use native.Mathlib.Omega.{arith}
 use lib.ListN.{length, get_or, replicate, length-replicate, get_or-replicate, get_or-append}
 use lib.Seq.{get_or-append-add}
-use borrow.Author.Rules.{rules}
 use Rattle.forms.proofs.put.padded.Goals as goal
 
 -- behind the spaces stand the bytes

@@ -1,7 +1,6 @@
 -- `put_byte` stores the byte where its place lies in the room.
 -- Assumes nothing.
 use native.Mathlib.Omega.{arith}
-use borrow.Author.Rules.{rules}
 use Rattle.forms.proofs.Puts.{put-past, put-stored}
 use Rattle.forms.proofs.put.put_byte.Goals as goal
 

@@ -2,13 +2,13 @@
 -- Assumes nothing.
 use mathlib.Core.Path.{◌≡◌, ◌∙◌}
 use mathlib.Core.List.{List, ◌++◌}
-use Prim.Native.Nat.{ℕ, ◌+◌, ◌-◌, ◌≤◌}
+use Prim.Native.Nat.{ℕ, ◌+◌}
 use native.Mathlib.Omega.{arith}
-use lib.ListN.{length, drop, replicate, length-append, length-replicate, drop_of_length-le}
+use lib.ListN.{length, replicate, length-append, length-replicate, drop_of_length-le}
 use borrow.Author.Rules.{rules}
 use Rattle.text.specs.Put.{right_text}
 use Rattle.forms.proofs.Puts.{put-length}
-use Rattle.forms.proofs.Left.{Left, left-all, left-byte, left-none}
+use Rattle.forms.proofs.Left.{left-all, left-byte, left-none}
 use Rattle.forms.proofs.put.put_right.Goals as goal
 
 length-padded : (gap : ℕ) (bytes : List ℕ) → length (replicate gap 32 ++ bytes) ≡ gap + length bytes

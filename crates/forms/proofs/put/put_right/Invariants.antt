@@ -1,14 +1,10 @@
 -- `put_right` puts one byte a turn, the spaces first.
 -- Assumes nothing.
-use mathlib.Core.Path.{◌≡◌, ◌∙◌}
-use mathlib.Core.List.{List, ◌++◌}
-use Prim.Native.Nat.{ℕ, ◌+◌, ◌-◌, ◌≤◌}
-use native.Mathlib.Omega.{arith}
-use lib.ListN.{length, drop, replicate, length-append, length-replicate, drop_of_length-le}
-use borrow.Author.Rules.{rules}
-use Rattle.text.specs.Put.{right_text}
-use Rattle.forms.proofs.Puts.{put-length}
-use Rattle.forms.proofs.Left.{Left, left-all, left-byte, left-none}
+use mathlib.Core.Path.{◌≡◌}
+use mathlib.Core.List.{◌++◌}
+use Prim.Native.Nat.{◌+◌, ◌-◌, ◌≤◌}
+use lib.ListN.{length, drop, replicate}
+use Rattle.forms.proofs.Left.{Left}
 use Rattle.forms.proofs.put.put_right.Given as goal
 
 abbrev pub invariant-loop-i : goal.invariant-loop-i

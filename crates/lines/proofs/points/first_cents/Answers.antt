@@ -3,7 +3,6 @@
 use Rattle.lines.specs.Points.{first_cents}
 use mathlib.Core.Path.{sym}
 use native.Mathlib.Nat.{max-eq_left, max-eq_right, le_of_lt}
-use borrow.Author.Rules.{rules}
 use Rattle.lines.proofs.points.first_cents.Goals as goal
 
 pub returns-then-own-net : goal.returns-then-own-net

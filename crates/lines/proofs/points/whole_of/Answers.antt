@@ -2,7 +2,6 @@
 -- Assumes nothing.
 use Rattle.lines.specs.Points.{whole_of}
 use native.Mathlib.Omega.{arith}
-use borrow.Author.Rules.{rules}
 use Rattle.lines.proofs.points.whole_of.Goals as goal
 
 pub returns-then-early : goal.returns-then-early

@@ -1,16 +1,8 @@
 -- `put_sold` puts a form that shows its numbers.
 -- Assumes nothing.
-use mathlib.Core.Path.{refl}
 use Rattle.lines.proofs.Answered.{sold-are}
 use Rattle.wording.proofs.Showing.{showing}
-use mir.Facts.{Fits-32_64}
 use Rattle.lines.proofs.sold.put_sold.Goals as goal
-
-pub overflow_cast-total : goal.overflow_cast-total
-overflow_cast-total c = Fits-32_64 c.struct_known-1.given.0
-
-pub slice_bounds-put_form-end-2 : goal.slice_bounds-put_form-end-2
-slice_bounds-put_form-end-2 c = refl
 
 pub returns : goal.returns
 returns c =

@@ -3,11 +3,7 @@
 use mathlib.Core.Path.{refl}
 use Rattle.lines.specs.Sold.{year_numbers}
 use Rattle.wording.proofs.Showing.{showing}
-use borrow.Author.Rules.{rules}
 use Rattle.lines.proofs.sold.put_year.Goals as goal
-
-pub slice_bounds-put_form-end-2 : goal.slice_bounds-put_form-end-2
-slice_bounds-put_form-end-2 c = refl
 
 pub returns : goal.returns
 unfolding year_numbers

@@ -1,7 +1,5 @@
 -- `tenth_past` is its definition.
 -- Assumes nothing.
-use Rattle.lines.specs.Total.{next_numbers}
-use borrow.Author.Rules.{rules}
 use Rattle.lines.proofs.total.tenth_past.Goals as goal
 
 pub returns-in-Bought : goal.returns-in-Bought

@@ -1,12 +1,8 @@
 -- `put_division` puts a form that shows its numbers.
 -- Assumes nothing.
-use mathlib.Core.Path.{refl}
 use Rattle.rowlines.specs.Division.{division_numbers}
 use Rattle.wording.proofs.Showing.{showing}
 use Rattle.rowlines.proofs.division.put_division.Goals as goal
-
-pub slice_bounds-put_form-end-2 : goal.slice_bounds-put_form-end-2
-slice_bounds-put_form-end-2 c = refl
 
 pub returns : goal.returns
 unfolding division_numbers

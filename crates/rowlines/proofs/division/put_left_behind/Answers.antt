@@ -1,13 +1,8 @@
 -- `put_left_behind` puts a form that shows its numbers.
 -- Assumes nothing.
-use mathlib.Core.Path.{refl}
 use Rattle.rowlines.specs.Division.{left_behind_numbers}
 use Rattle.wording.proofs.Showing.{showing}
-use borrow.Author.Rules.{rules}
 use Rattle.rowlines.proofs.division.put_left_behind.Goals as goal
-
-pub slice_bounds-put_form-end-2 : goal.slice_bounds-put_form-end-2
-slice_bounds-put_form-end-2 c = refl
 
 pub returns : goal.returns
 unfolding left_behind_numbers

@@ -5,9 +5,6 @@ use Rattle.rowlines.specs.Rows.{together_numbers}
 use Rattle.wording.proofs.Showing.{showing}
 use Rattle.rowlines.proofs.rows.put_together.Goals as goal
 
-pub slice_bounds-put_form-end-2 : goal.slice_bounds-put_form-end-2
-slice_bounds-put_form-end-2 c = refl
-
 pub returns : goal.returns
 unfolding together_numbers
 returns c = showing _ _ c.put_form.ensures refl

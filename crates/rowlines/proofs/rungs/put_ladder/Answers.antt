@@ -5,9 +5,6 @@ use Rattle.rowlines.specs.Levels.{ladder_numbers}
 use Rattle.wording.proofs.Showing.{showing}
 use Rattle.rowlines.proofs.rungs.put_ladder.Goals as goal
 
-pub slice_bounds-put_form-end-2 : goal.slice_bounds-put_form-end-2
-slice_bounds-put_form-end-2 c = refl
-
 pub returns : goal.returns
 unfolding ladder_numbers
 returns c = showing _ _ c.put_form.ensures refl

@@ -1,35 +1,16 @@
 -- `put_line` puts a form that shows its numbers; a product of two numbers of 32 bits fits 64.
 -- Assumes nothing.
-use mathlib.Core.Path.{refl}
+use native.Mathlib.Omega.{arith}
 use Rattle.laws.proofs.Products.{product-below}
 use Rattle.rowlines.proofs.RowNumbers.{line-are}
 use Rattle.wording.proofs.Showing.{showing}
-use mir.Facts.{Fits-32_64}
 use Rattle.rowlines.proofs.table.put_line.Goals as goal
 
-pub overflow_cast-resource : goal.overflow_cast-resource
-overflow_cast-resource c = Fits-32_64 c.struct_known-1.given.0
-
-pub overflow_cast-step : goal.overflow_cast-step
-overflow_cast-step c = Fits-32_64 c.struct_known-2-1.given.1.1.1.1.1.1.0
-
-pub overflow_cast-seller : goal.overflow_cast-seller
-overflow_cast-seller c = Fits-32_64 c.struct_known-3-1.given.1.0
-
-pub overflow_cast-offered : goal.overflow_cast-offered
-overflow_cast-offered c = Fits-32_64 c.struct_known-4-1.given.1.1.1.0
-
 pub overflow_mul-exact : goal.overflow_mul-exact
-overflow_mul-exact c = record { fits = product-below 32 c.struct_known-4-1.given.1.1.1.0.fits c.ranges.amount.fits }
+overflow_mul-exact c = grind (arith, product-below 32)
 
 pub overflow_mul-taken : goal.overflow_mul-taken
 overflow_mul-taken c = record { fits = product-below 32 c.ranges.cleared.fits c.ranges.sum.fits }
-
-pub slice_bounds-put_form-end-2 : goal.slice_bounds-put_form-end-2
-slice_bounds-put_form-end-2 c = refl
-
-pub overflow_cast-number_held : goal.overflow_cast-number_held
-overflow_cast-number_held c = Fits-32_64 (record { fits = c.number_held.type-inv })
 
 pub returns : goal.returns
 returns c =

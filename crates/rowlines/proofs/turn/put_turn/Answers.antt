@@ -1,11 +1,7 @@
 -- `put_turn` puts a form that shows its numbers.
 -- Assumes nothing.
-use mathlib.Core.Path.{refl}
 use Rattle.wording.proofs.Showing.{showing}
 use Rattle.rowlines.proofs.turn.put_turn.Goals as goal
-
-pub slice_bounds-put_form-end-2 : goal.slice_bounds-put_form-end-2
-slice_bounds-put_form-end-2 c = refl
 
 pub returns : goal.returns
 returns c = showing _ _ c.put_form.ensures c.turn_numbers-n.ensures.numbers

@@ -1,6 +1,5 @@
 -- `margined` tells the words and the number.
 -- Assumes nothing.
-use borrow.Author.Rules.{rules}
 use Rattle.wording.proofs.word.margined.Goals as goal
 
 pub returns-in-Given : goal.returns-in-Given

@@ -1,6 +1,5 @@
 -- `priced` tells the words and the number.
 -- Assumes nothing.
-use borrow.Author.Rules.{rules}
 use Rattle.wording.proofs.word.priced.Goals as goal
 
 pub returns-in-Price : goal.returns-in-Price

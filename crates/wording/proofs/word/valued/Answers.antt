@@ -1,6 +1,5 @@
 -- `valued` tells the words and the number.
 -- Assumes nothing.
-use borrow.Author.Rules.{rules}
 use Rattle.wording.proofs.word.valued.Goals as goal
 
 pub returns-in-Given : goal.returns-in-Given

@@ -1,6 +1,5 @@
 -- `yearly` tells the words and the number.
 -- Assumes nothing.
-use borrow.Author.Rules.{rules}
 use Rattle.wording.proofs.word.yearly.Goals as goal
 
 pub returns-in-Given : goal.returns-in-Given
