@@ -9,10 +9,9 @@ use Prim.Native.Nat.{ℕ, ◌-◌, ◌≤◌, ◌<◌}
 use lib.ListN.{length, get_or}
 use Rattle.auction.specs.Settlement.{mills}
 use Rattle.values.specs.declared.Verdict.{Verdict}
-use Rattle.values.specs.declared.Verdict.TheVariants.{Passed, Refused}
+use Rattle.values.specs.declared.Verdict.TheVariants.{Passed}
 use Rattle.values.specs.Contents.{offer_at}
 use Rattle.values.specs.declared.place.Offer.{Offer}
-use Rattle.layout.specs.Form.{offer_count}
 use Rattle.layout.specs.Read.{contents_of}
 use Rattle.layout.proofs.Contained.{contents-count, contents-offer}
 use Rattle.book.specs.Faults.{first_fault}

@@ -2,7 +2,6 @@
 -- Assumes nothing.
 use mathlib.Core.Path.{◌∙◌}
 use Rattle.answers.proofs.Shows.{cleared-told}
-use borrow.Author.Rules.{rules}
 use Rattle.answers.proofs.answer.Goals as goal
 
 pub returns-in-Cleared : goal.returns-in-Cleared

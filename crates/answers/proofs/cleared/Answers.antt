@@ -1,6 +1,5 @@
 -- `plain::cleared` shows a clearing, field by field.
 -- Assumes nothing.
-use borrow.Author.Rules.{rules}
 use Rattle.answers.proofs.cleared.Goals as goal
 
 pub returns : goal.returns

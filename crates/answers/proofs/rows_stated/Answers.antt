@@ -1,7 +1,6 @@
 -- `rows_stated` reads the number of offers, where there is a block to read it from.
 -- Assumes nothing.
 use mathlib.Core.Path.{◌∙◌}
-use borrow.Author.Rules.{rules}
 use Rattle.answers.proofs.Shows.{rows-stated, rows-unstated}
 use Rattle.answers.proofs.rows_stated.Goals as goal
 

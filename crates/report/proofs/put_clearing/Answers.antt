@@ -8,7 +8,6 @@ use Rattle.book.proofs.Accepted.{accepted-form, accepted-inside}
 use Rattle.report.specs.inner.Report.{sold_text}
 use Rattle.report.proofs.Fitting.{fitted-length, fitted-append, rows-counted}
 use native.Mathlib.Omega.{arith}
-use borrow.Author.Rules.{rules}
 use Rattle.report.proofs.put_clearing.Goals as goal
 use Rattle.report.proofs.put_clearing.Goals.{After-offer_count-n}
 

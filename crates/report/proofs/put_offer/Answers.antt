@@ -2,7 +2,6 @@
 -- Assumes nothing.
 use Rattle.report.proofs.Fitting.{row_told}
 use native.Mathlib.Omega.{arith}
-use borrow.Author.Rules.{rules}
 use Rattle.report.proofs.put_offer.Goals as goal
 
 pub returns : goal.returns

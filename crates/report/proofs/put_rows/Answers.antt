@@ -1,11 +1,6 @@
 -- `put_rows` puts the line of one row after another. The loop's invariant: the lines of the rows so far were put.
 -- Assumes nothing.
-use mathlib.Core.Path.{◌≡◌}
-use Prim.Native.Nat.{◌+◌, ◌-◌, ◌*◌, ◌≤◌}
-use lib.ListN.{length}
-use Rattle.settle.specs.inner.Read.{quoted}
-use Rattle.report.specs.Lines.{rows_text, Fitted}
-use Rattle.report.specs.inner.Report.{sold_line}
+use Prim.Native.Nat.{◌-◌}
 use Rattle.report.proofs.Fitting.{rows_none, rows_more, rows-counted}
 use native.Mathlib.Omega.{arith}
 use borrow.Author.Rules.{rules}

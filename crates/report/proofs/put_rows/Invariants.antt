@@ -6,9 +6,6 @@ use lib.ListN.{length}
 use Rattle.settle.specs.inner.Read.{quoted}
 use Rattle.report.specs.Lines.{rows_text, Fitted}
 use Rattle.report.specs.inner.Report.{sold_line}
-use Rattle.report.proofs.Fitting.{rows_none, rows_more, rows-counted}
-use native.Mathlib.Omega.{arith}
-use borrow.Author.Rules.{rules}
 use Rattle.report.proofs.put_rows.Given as goal
 
 abbrev pub invariant-loop-row : goal.invariant-loop-row

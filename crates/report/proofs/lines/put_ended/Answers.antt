@@ -2,7 +2,6 @@
 -- Assumes nothing.
 use Rattle.report.proofs.Fitting.{fitted-ended, fitted-place, ended-long}
 use native.Mathlib.Omega.{arith}
-use borrow.Author.Rules.{rules}
 use Rattle.report.proofs.lines.put_ended.Goals as goal
 
 pub returns : goal.returns

@@ -2,7 +2,6 @@
 -- Assumes nothing.
 use Rattle.report.proofs.Fitting.{fitted, fitted-place, price-told, no-price-told}
 use native.Mathlib.Omega.{arith}
-use borrow.Author.Rules.{rules}
 use Rattle.report.proofs.lines.put_price.Goals as goal
 
 pub returns-in-Price : goal.returns-in-Price

@@ -2,7 +2,6 @@
 -- Assumes nothing.
 use Rattle.report.specs.Lines.{refusal_text}
 use Rattle.report.proofs.Fitting.{fitted-append}
-use borrow.Author.Rules.{rules}
 use Rattle.report.proofs.lines.put_refusal.Goals as goal
 
 pub returns : goal.returns

@@ -3,7 +3,6 @@
 use Rattle.report.specs.Lines.{row_text}
 use Rattle.report.proofs.Fitting.{fitted-append}
 use native.Mathlib.Omega.{arith}
-use borrow.Author.Rules.{rules}
 use Rattle.report.proofs.lines.put_row.Goals as goal
 
 pub returns : goal.returns

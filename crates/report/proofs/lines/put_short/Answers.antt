@@ -2,7 +2,6 @@
 -- Assumes nothing.
 use Rattle.report.proofs.Fitting.{fitted-place, ended-short}
 use native.Mathlib.Omega.{arith}
-use borrow.Author.Rules.{rules}
 use Rattle.report.proofs.lines.put_short.Goals as goal
 
 pub returns : goal.returns

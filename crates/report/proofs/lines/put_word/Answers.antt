@@ -3,7 +3,6 @@
 use Rattle.report.specs.Lines.{word_text, Fitted}
 use Rattle.report.proofs.Fitting.{fitted, fitted-append, fitted-place}
 use native.Mathlib.Omega.{arith}
-use borrow.Author.Rules.{rules}
 use Rattle.report.proofs.lines.put_word.Goals as goal
 use Rattle.report.proofs.lines.put_word.Goals.{After-put_bytes-behind}
 
