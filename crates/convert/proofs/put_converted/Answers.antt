@@ -21,7 +21,7 @@ owned c = sym c.own_fault.ensures ∙ c.in_default.is
 
 -- what the book holds are bytes
 bytes-known : (c : In_default) → let b = c.args.book.now in (i : ℕ) → i < length b → byte b i < 256
-bytes-known c i l = omega (arith, c.shared_slice_known-1.given i)
+bytes-known c i l = omega (arith, c.type_inv.book i)
 
 pub returns-then-room-bytes : goal.returns-then-room-bytes
 returns-then-room-bytes c =
