@@ -4,24 +4,22 @@
 -- is; that it is as long, and that converting it gives the book back.
 -- Assumes nothing.
 use mathlib.Core.Path.{◌≡◌, refl, sym, ap, ◌∙◌}
-use mathlib.Core.Bool.{true, false, cond}
 use mathlib.Core.List.{List}
-use Prim.Native.Nat.{ℕ, ◌*◌, ◌+◌, ◌≤◌, ◌<◌}
+use Prim.Native.Nat.{ℕ, ◌≤◌, ◌<◌}
 use native.Mathlib.Omega.{arith}
-use lib.Dec.{eqb, leb}
+use lib.Dec.{leb}
 use lib.ListN.{length}
 use borrow.Author.Tests.{le-leb, lt-leb, leb-true, eq-eqb}
-use Rattle.laws.proofs.Cases.{cond-true, cond-false}
+use Rattle.laws.proofs.Cases.{cond-true}
 use Rattle.block.specs.Bytes.{byte}
 use Rattle.values.specs.Contents.{Contents, offer_at}
-use Rattle.values.specs.Refusals.{several_steps, short_room, unless, and_then, first}
+use Rattle.values.specs.Refusals.{several_steps, short_room, unless, first}
 use Rattle.values.specs.declared.Verdict.{Verdict}
 use Rattle.values.specs.declared.Verdict.TheVariants.{Passed, Refused}
 use Rattle.values.specs.declared.place.Offer.{Offer}
 use Rattle.values.proofs.Firsts.{unless-true, unless-false, unless-passed, and_then-next, and_then-right, first-at, first-all}
 use Rattle.layout.specs.Form.{form_fault}
 use Rattle.layout.specs.Read.{contents_of}
-use Rattle.sections.specs.Section.{blocks_for}
 use Rattle.book.specs.Faults.{contents_fault, first_fault, given_fault, sound_fault}
 use Rattle.book.proofs.Accepted.{sound-form, sound-offers}
 use Rattle.book.proofs.Editions.{contents-any-edition, given-any-edition}

@@ -3,9 +3,9 @@
 -- In order: the two editions; contents in the other edition, twice; where every step is 1 they fit the bytes of its book, and
 -- so they are read back from it.
 -- Assumes nothing.
-use mathlib.Core.Path.{◌≡◌, refl, sym, ap, ◌∙◌}
+use mathlib.Core.Path.{◌≡◌, refl}
 use mathlib.Core.Bool.{true}
-use Prim.Native.Nat.{ℕ, ◌≤◌, ◌<◌}
+use Prim.Native.Nat.{ℕ, ◌<◌}
 use native.Mathlib.Omega.{arith}
 use lib.ListN.{length}
 use lib.Dec.{leb}
@@ -15,7 +15,7 @@ use Rattle.values.specs.Contents.{Contents, offer_at}
 use Rattle.layout.specs.Layout.{edition_known}
 use Rattle.layout.specs.Read.{contents_of}
 use Rattle.encoding.specs.Encode.{encode}
-use Rattle.encoding.specs.inner.Fits.{StepFits, Fits}
+use Rattle.encoding.specs.inner.Fits.{Fits}
 use Rattle.encoding.proofs.Encoded.{read-encoded}
 use Rattle.convert.specs.Convert.{other_edition, in_other}
 

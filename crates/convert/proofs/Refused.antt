@@ -13,7 +13,7 @@ use lib.ListN.{length}
 use borrow.Author.Tests.{leb-true}
 use Rattle.laws.proofs.Cases.{by_order}
 use Rattle.values.specs.Contents.{Contents, offer_at}
-use Rattle.values.specs.Refusals.{wrong_layout, several_steps, unless, and_then, first}
+use Rattle.values.specs.Refusals.{wrong_layout, unless, and_then, first}
 use Rattle.values.specs.declared.Verdict.{Verdict}
 use Rattle.values.specs.declared.Verdict.TheVariants.{Passed, Refused}
 use Rattle.values.specs.declared.head.Parameters.{Parameters}

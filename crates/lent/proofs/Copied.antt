@@ -8,15 +8,13 @@ use Prim.Native.Nat.{ℕ, ◌≤◌, ◌<◌}
 use native.Mathlib.Omega.{arith}
 use lib.ListN.{length, get_or, take, drop, length-map, get_or-map}
 use lib.Seq.{length-take-le, get_or-take, ext_get_or}
-use Rattle.values.specs.Contents.{Contents, no_offer, offer_at}
+use Rattle.values.specs.Contents.{no_offer, offer_at}
 use Rattle.values.specs.declared.Verdict.{Verdict}
 use Rattle.values.specs.declared.Verdict.TheVariants.{Passed, Refused}
-use Rattle.values.specs.declared.head.Parameters.{Parameters}
-use Rattle.values.specs.declared.place.Offer.{Offer}
 use Rattle.block.specs.Bytes.{byte}
 use Rattle.layout.specs.Read.{contents_of}
 use Rattle.book.specs.Faults.{sound_fault}
-use Rattle.plain.specs.Given.{parameters_in, offer_in, contents_in}
+use Rattle.plain.specs.Given.{offer_in, contents_in}
 use Rattle.plain.specs.declared.structs.OzpContents.{OzpContents}
 use Rattle.plain.specs.declared.structs.OzpRow.{OzpRow}
 use Rattle.plain.specs.declared.structs.OzpText.{OzpText}

@@ -1,14 +1,13 @@
 -- A row that passes alone is refused by neither 7 nor 10, and the draft past it is told from its numbers.
 -- Assumes nothing.
-use mathlib.Core.Path.{◌≡◌, refl, sym, ap, ◌∙◌}
-use mathlib.Core.Bool.{Bool, true, false, cond, ◌&&◌, ◌||◌}
+use mathlib.Core.Path.{◌≡◌, refl, ◌∙◌}
+use mathlib.Core.Bool.{Bool, true, false, ◌&&◌}
 use Prim.Native.Nat.{ℕ}
 use native.Mathlib.Omega.{arith}
 use lib.Dec.{eqb, leb}
 use borrow.Author.Tests.{eqb-true, le-leb}
 use Rattle.laws.proofs.Cases.{by-test, and-true, and_left, and_right}
-use Rattle.values.specs.declared.Value.{Value}
-use Rattle.values.specs.declared.Value.TheVariants.{Given, Missing}
+use Rattle.values.specs.declared.Value.TheVariants.{Given}
 use Rattle.values.specs.declared.Verdict.TheVariants.{Passed}
 use Rattle.values.specs.declared.place.Offer.{Offer}
 use Rattle.values.proofs.Firsts.{unless-true}

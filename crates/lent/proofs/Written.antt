@@ -4,23 +4,21 @@
 -- what was given; two contents never give the same bytes; a book that is read is written back.
 -- A caller's numbers have the widths of their types: `OffersFit`.
 -- Assumes nothing.
-use mathlib.Core.Path.{◌≡◌, refl, sym, ap, ◌∙◌}
+use mathlib.Core.Path.{◌≡◌, sym, ap, ◌∙◌}
 use mathlib.Core.List.{List, ◌++◌}
 use Prim.Native.Nat.{ℕ, ◌≤◌, ◌<◌}
-use native.Mathlib.Omega.{arith}
 use lib.Dec.{leb}
 use lib.ListN.{length, take, drop}
 use lib.Seq.{take-append_seam}
-use borrow.Author.Tests.{le-leb, leb-true}
+use borrow.Author.Tests.{le-leb}
 use Rattle.values.specs.Contents.{Contents}
-use Rattle.values.specs.Refusals.{unless, and_then, short_room, buffer_by}
+use Rattle.values.specs.Refusals.{short_room, buffer_by}
 use Rattle.values.specs.declared.Verdict.{Verdict}
 use Rattle.values.specs.declared.Verdict.TheVariants.{Passed, Refused}
-use Rattle.values.proofs.Firsts.{unless-true, unless-passed, and_then-next, and_then-left, and_then-right}
+use Rattle.values.proofs.Firsts.{unless-true, and_then-next, and_then-left, and_then-right}
 use Rattle.block.specs.Bytes.{byte}
 use Rattle.layout.specs.Read.{contents_of}
 use Rattle.layout.specs.Form.{form_fault}
-use Rattle.limits.specs.Parameters.{range_fault}
 use Rattle.book.specs.Faults.{given_fault, sound_fault}
 use Rattle.encoding.specs.Encode.{encode}
 use Rattle.encoding.specs.Widths.{OffersFit}

@@ -26,7 +26,7 @@ use Rattle.call.specs.declared.Answer.{Answer}
 use Rattle.call.specs.declared.Answer.TheVariants.{Cleared as Answer-as-Cleared, Refused as Answer-as-Refused}
 use Rattle.call.proofs.Calls.{outcome-answer}
 use Rattle.call.proofs.Outcomes.{cleared-accepted, cleared-clearing, cleared-row, committed-row}
-use Rattle.workings.specs.Works.{worked_by, worked}
+use Rattle.workings.specs.Works.{worked_by}
 use Rattle.workings.specs.declared.works.Works.{Works}
 use Rattle.workings.specs.declared.works.WorksAnswer.{WorksAnswer}
 use Rattle.workings.specs.declared.works.WorksAnswer.TheVariants.{Worked}

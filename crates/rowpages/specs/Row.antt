@@ -11,7 +11,6 @@ use Rattle.readout.specs.declared.RowOffer.TheVariants.{Offered, Unread}
 use Rattle.workings.specs.declared.row.RowWorks.{RowWorks}
 use Rattle.workings.specs.declared.row.WorkedRow.{WorkedRow}
 use Rattle.workings.specs.declared.row.WorkedRow.TheVariants.{Row, NoRow as WorkedRow-as-NoRow}
-use Rattle.workings.specs.declared.works.Works.{Works}
 use Rattle.workings.specs.declared.works.WorksAnswer.{WorksAnswer}
 use Rattle.workings.specs.declared.works.WorksAnswer.TheVariants.{Worked, Refused}
 use Rattle.rowlines.specs.Rows.{offer_numbers, part_numbers, settled_numbers}

@@ -1,7 +1,6 @@
 -- `down_fault` meets its contract: the edition picks the case.
 -- Assumes nothing.
 use mathlib.Core.Path.{◌∙◌, sym}
-use borrow.Author.Rules.{rules}
 use borrow.Author.Tests.{eq-eqb, ne_eqb}
 use Rattle.laws.proofs.Cases.{cond-true, cond-false}
 use Rattle.convert.proofs.down_fault.Goals as goal

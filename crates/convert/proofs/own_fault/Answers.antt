@@ -1,7 +1,6 @@
 -- `own_fault` tests the book, and then its steps.
 -- Assumes nothing.
 use mathlib.Core.Path.{◌≡◌, sym, ◌∙◌}
-use borrow.Author.Rules.{rules}
 use Rattle.values.specs.declared.Verdict.TheVariants.{Passed}
 use Rattle.layout.proofs.Passing.{form-passed-length}
 use Rattle.book.specs.Faults.{sound_fault}

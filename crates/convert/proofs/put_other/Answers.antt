@@ -1,8 +1,6 @@
 -- `put_other` puts the rows of a sound book, and makes the other around them.
 -- Assumes nothing.
-use mathlib.Core.Path.{◌≡◌, ◌∙◌}
 use native.Mathlib.Omega.{arith}
-use borrow.Author.Rules.{rules}
 use Rattle.sections.specs.Blocks.{block_of}
 use Rattle.layout.specs.Read.{contents_of}
 use Rattle.layout.proofs.Passing.{form-passed-length, form-passed-count, form-passed-blocks}

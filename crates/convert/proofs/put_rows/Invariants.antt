@@ -1,13 +1,10 @@
 -- `put_rows` puts the rows of a book into their places of another. The loop's invariant: the rows passed stand there.
 -- Assumes nothing.
-use mathlib.Core.Path.{◌≡◌, refl, ap, ◌∙◌}
-use Prim.Native.Nat.{ℕ, ◌-◌, ◌≤◌}
+use mathlib.Core.Path.{◌≡◌}
+use Prim.Native.Nat.{◌-◌, ◌≤◌}
 use lib.ListN.{length}
-use native.Mathlib.Omega.{arith}
-use borrow.Author.Rules.{rules}
 use Rattle.layout.specs.Read.{row_offers}
 use Rattle.places.specs.inner.Rows.{put_rows}
-use Rattle.convert.proofs.Putting.{put-none, put-more, row-own}
 use Rattle.convert.proofs.put_rows.Given as goal
 
 abbrev pub invariant-loop-row : goal.invariant-loop-row

@@ -2,13 +2,12 @@
 -- Assumes nothing.
 use mathlib.Core.Path.{◌≡◌, sym, ap, ◌∙◌}
 use mathlib.Core.List.{List}
-use Prim.Native.Nat.{◌-◌, ◌≤◌}
+use Prim.Native.Nat.{◌≤◌}
 use lib.ListN.{length}
 use native.Mathlib.Omega.{arith}
 use borrow.Author.Rules.{rules}
 use Rattle.values.specs.Contents.{offer_at}
 use Rattle.values.specs.Refusals.{first}
-use Rattle.values.specs.declared.Verdict.TheVariants.{Passed}
 use Rattle.values.specs.declared.place.Offer.{Offer}
 use Rattle.values.proofs.Firsts.{first-zero, first_on, first-refused}
 use Rattle.layout.specs.Read.{row_offers}

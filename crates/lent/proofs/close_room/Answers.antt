@@ -1,8 +1,6 @@
 -- `close_room` makes the book around the rows where nothing is refused.
 -- Assumes nothing.
-use mathlib.Core.Path.{◌≡◌, ◌∙◌}
 use Rattle.lent.proofs.Rooms.{closed-refused, closed-made}
-use borrow.Author.Rules.{rules}
 use Rattle.lent.proofs.close_room.Goals as goal
 
 pub returns-in-Refused : goal.returns-in-Refused

@@ -2,7 +2,6 @@
 -- Assumes nothing.
 use Rattle.lent.proofs.Rooms.{opened-refused, opened-short, opened-cleared}
 use native.Mathlib.Omega.{arith}
-use borrow.Author.Rules.{rules}
 use Rattle.lent.proofs.open_room.Goals as goal
 
 pub returns-in-Refused : goal.returns-in-Refused

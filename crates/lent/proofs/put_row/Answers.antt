@@ -2,7 +2,6 @@
 -- Assumes nothing.
 use mathlib.Core.Path.{ap, ◌∙◌}
 use Rattle.places.specs.inner.Rows.{put_row}
-use borrow.Author.Rules.{rules}
 use Rattle.lent.proofs.put_row.Goals as goal
 
 pub returns : goal.returns

@@ -1,6 +1,5 @@
 -- `block_passes` joins the tests of a minimum block.
 -- Assumes nothing.
-use mathlib.Core.Path.{refl}
 use mathlib.Core.Bool.{and_assoc}
 use Rattle.lent.proofs.alone.block_passes.Goals as goal
 

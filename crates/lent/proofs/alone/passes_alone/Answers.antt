@@ -1,7 +1,6 @@
 -- `passes_alone` joins the tests of a row.
 -- Assumes nothing.
 use mathlib.Core.Bool.{and_assoc}
-use borrow.Author.Rules.{rules}
 use Rattle.lent.specs.inner.Alone.{passes_alone}
 use Rattle.lent.proofs.alone.passes_alone.Goals as goal
 

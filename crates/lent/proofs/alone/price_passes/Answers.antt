@@ -1,7 +1,6 @@
 -- `price_passes` joins the tests of a price.
 -- Assumes nothing.
 use mathlib.Core.Path.{refl}
-use mathlib.Core.Bool.{and_assoc}
 use Rattle.lent.proofs.alone.price_passes.Goals as goal
 
 pub returns : goal.returns

@@ -1,9 +1,8 @@
 -- `past_row` tests a row by its numbers, or by the offer that they make.
 -- Assumes nothing.
-use mathlib.Core.Path.{◌≡◌, refl, sym, ◌∙◌}
+use mathlib.Core.Path.{refl, sym, ◌∙◌}
 use Rattle.lent.specs.inner.Drafts.{tested_row}
 use Rattle.lent.proofs.Passing.{alone-tested}
-use borrow.Author.Rules.{rules}
 use Rattle.lent.proofs.row.past_row.Goals as goal
 
 pub returns-then-passes_alone : goal.returns-then-passes_alone

@@ -1,13 +1,12 @@
 -- `row_fault` asks for the row before where the row is past step 1.
 -- Assumes nothing.
-use mathlib.Core.Path.{◌≡◌, refl, sym, ◌∙◌}
+use mathlib.Core.Path.{refl, sym, ◌∙◌}
 use mathlib.Core.Bool.{false}
 use borrow.Author.Tests.{ne_eqb}
 use Rattle.limits.specs.Offers.{step_fault}
 use Rattle.limits.specs.inner.Rows.{row_fault, past_fault}
 use Rattle.limits.proofs.Tested.{row_fault-first}
 use Rattle.steps.specs.Steps.{step_holds}
-use borrow.Author.Rules.{rules}
 use Rattle.lent.proofs.row.row_fault.Goals as goal
 
 pub returns-then-o-eq1 : goal.returns-then-o-eq1

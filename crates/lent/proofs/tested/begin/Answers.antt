@@ -1,12 +1,11 @@
 -- `begin` tests what stands before the rows.
 -- Assumes nothing.
-use mathlib.Core.Path.{◌≡◌, ap, ◌∙◌}
+use mathlib.Core.Path.{ap, ◌∙◌}
 use Rattle.values.specs.Contents.{no_offer}
 use Rattle.values.specs.declared.Verdict.{Verdict}
 use Rattle.values.specs.declared.head.Parameters.{Parameters}
 use Rattle.writer.specs.inner.Opening.{opening_fault}
 use Rattle.lent.specs.inner.Drafts.{before_of, draft_by, draft_of}
-use borrow.Author.Rules.{rules}
 use Rattle.lent.proofs.tested.begin.Goals as goal
 
 pub returns : goal.returns

@@ -1,7 +1,6 @@
 -- `drafted` leaves rows where nothing is refused.
 -- Assumes nothing.
-use mathlib.Core.Path.{◌≡◌, refl}
-use borrow.Author.Rules.{rules}
+use mathlib.Core.Path.{refl}
 use Rattle.lent.proofs.tested.drafted.Goals as goal
 
 pub returns : goal.returns

@@ -1,6 +1,6 @@
 -- `repeat_fault` searches for a repeat in both halves of what is kept.
 -- Assumes nothing.
-use mathlib.Core.Path.{◌≡◌, ap, ◌∙◌}
+use mathlib.Core.Path.{◌≡◌, ap}
 use Prim.Native.Nat.{ℕ, ◌+◌, ◌-◌, ◌/◌}
 use native.Mathlib.Nat.{sub-zero}
 use lib.ListN.{length, get_or, take, drop, length-drop}
@@ -8,7 +8,6 @@ use lib.Seq.{take_all}
 use Rattle.repeats.specs.inner.Repeats.{first_repeat}
 use Rattle.lent.proofs.Drafts.{repeat-halves, repeated-here, repeated-none}
 use native.Mathlib.Omega.{arith}
-use borrow.Author.Rules.{rules}
 use Rattle.lent.proofs.tested.repeat_fault.Goals as goal
 use Rattle.lent.proofs.tested.repeat_fault.Goals.{After-first_repeat-repeat}
 

@@ -1,9 +1,8 @@
 -- `unrepeated` keeps the rows where no repeat is refused.
 -- Assumes nothing.
-use mathlib.Core.Path.{◌≡◌, ap, ◌∙◌}
+use mathlib.Core.Path.{ap, ◌∙◌}
 use Rattle.values.specs.declared.Verdict.{Verdict}
 use Rattle.lent.specs.inner.Drafts.{draft_by}
-use borrow.Author.Rules.{rules}
 use Rattle.lent.proofs.tested.unrepeated.Goals as goal
 
 pub returns : goal.returns

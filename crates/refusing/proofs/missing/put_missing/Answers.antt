@@ -1,15 +1,8 @@
 -- `put_missing` puts the parameters, and then one row after another. The loop's invariant: the rows so far were put.
 -- Assumes nothing.
-use mathlib.Core.Path.{◌≡◌}
-use mathlib.Core.List.{List}
-use Prim.Native.Nat.{ℕ, ◌-◌, ◌≤◌}
-use lib.ListN.{length}
-use Rattle.forms.specs.Shown.{Shows}
-use Rattle.forms.specs.Parts.{parts_of}
 use Rattle.forms.proofs.Shows.{shows_more}
 use Rattle.forms.proofs.Putting.{parts_none, parts_more, parts-counted}
-use Rattle.readout.specs.Facts.{row_in}
-use Rattle.refusing.specs.Missing.{unpriced_row, missing_parts}
+use Rattle.refusing.specs.Missing.{missing_parts}
 use native.Mathlib.Omega.{arith}
 use borrow.Author.Rules.{rules}
 use Rattle.refusing.proofs.missing.put_missing.Goals as goal

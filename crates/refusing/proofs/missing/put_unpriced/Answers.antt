@@ -1,7 +1,6 @@
 -- `put_unpriced` puts a line where a row is there and its price is missing.
 -- Assumes nothing.
 use Rattle.forms.proofs.Shows.{shows-none, shows-one}
-use borrow.Author.Rules.{rules}
 use Rattle.refusing.proofs.missing.put_unpriced.Goals as goal
 
 pub returns-in_default : goal.returns-in_default

@@ -1,9 +1,9 @@
 -- `put_against` puts what belongs to the number of the refusal, each arm its own.
 -- Assumes nothing.
+use native.Mathlib.Omega.{arith}
 use Rattle.forms.proofs.Shows.{shows-none, shows-one}
 use Rattle.refusing.specs.Refused.{against_parts}
 use borrow.Author.Tests.{ne_eqb}
-use borrow.Author.Rules.{rules}
 use Rattle.refusing.proofs.refused.put_against.Goals as goal
 
 pub returns-in-Offered : goal.returns-in-Offered
@@ -20,4 +20,5 @@ returns-in-10 c = rw c.in-10.is c.put_steps.ensures
 
 pub returns-in_default : goal.returns-in_default
 unfolding against_parts
-returns-in_default c = rw (ne_eqb _ 8 c.in_default.rest.0.1, ne_eqb _ 10 c.in_default.rest.1) (shows-none _ _)
+returns-in_default c =
+    rw (ne_eqb c.args.number 8 (omega arith), ne_eqb c.args.number 10 (omega arith)) (shows-none _ _)

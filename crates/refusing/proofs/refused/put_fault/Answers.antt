@@ -3,7 +3,6 @@
 use Rattle.forms.proofs.Shows.{shows-one}
 use Rattle.refusing.specs.Refused.{fault_parts}
 use borrow.Author.Tests.{le-leb, lt-leb}
-use borrow.Author.Rules.{rules}
 use Rattle.refusing.proofs.refused.put_fault.Goals as goal
 
 pub returns-then-number-le5 : goal.returns-then-number-le5

@@ -2,7 +2,6 @@
 -- Assumes nothing.
 use Rattle.forms.proofs.Shows.{shows_then}
 use Rattle.refusing.specs.Refused.{refused_parts}
-use borrow.Author.Rules.{rules}
 use Rattle.refusing.proofs.refused.put_refused.Goals as goal
 
 pub returns : goal.returns

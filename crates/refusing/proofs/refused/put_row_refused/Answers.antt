@@ -3,7 +3,6 @@
 use Rattle.forms.proofs.Shows.{shows-none, shows-one, shows_more, shows_then}
 use Rattle.refusing.specs.Refused.{wrong_parts}
 use borrow.Author.Tests.{eq-eqb, ne_eqb}
-use borrow.Author.Rules.{rules}
 use Rattle.refusing.proofs.refused.put_row_refused.Goals as goal
 
 pub returns-in_default : goal.returns-in_default

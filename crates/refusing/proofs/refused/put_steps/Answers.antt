@@ -3,7 +3,6 @@
 use Rattle.forms.proofs.Shows.{shows-none, shows-one, shows_more}
 use Rattle.refusing.specs.Refused.{steps_parts}
 use borrow.Author.Tests.{eq-eqb, ne_eqb}
-use borrow.Author.Rules.{rules}
 use Rattle.refusing.proofs.refused.put_steps.Goals as goal
 
 pub returns-then-row-eq0 : goal.returns-then-row-eq0

@@ -1,7 +1,6 @@
 -- `put_stated_row` puts the offer of a row that is there, and behind it its values.
 -- Assumes nothing.
 use Rattle.forms.proofs.Shows.{shows-none, shows-one, shows_more}
-use borrow.Author.Rules.{rules}
 use Rattle.refusing.proofs.stated.put_stated_row.Goals as goal
 
 pub returns-in_default : goal.returns-in_default

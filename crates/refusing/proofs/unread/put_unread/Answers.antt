@@ -1,8 +1,8 @@
 -- `put_unread` puts what belongs to the number of the refusal, each arm its own.
 -- Assumes nothing.
+use native.Mathlib.Omega.{arith}
 use Rattle.forms.proofs.Shows.{shows-none, shows-one}
 use borrow.Author.Tests.{ne_eqb}
-use borrow.Author.Rules.{rules}
 use Rattle.refusing.proofs.unread.put_unread.Goals as goal
 
 pub returns-in_default : goal.returns-in_default
@@ -20,12 +20,12 @@ returns-in-2 c =
 
 pub returns-in-Refused-layout_cause : goal.returns-in-Refused-layout_cause
 returns-in-Refused-layout_cause c =
-    let other = c.in_default-number.rest in
-    rw (← c.form.ensures, c.in-Refused.is, ne_eqb _ 1 other.0.1, ne_eqb _ 2 other.1, ← c.layout_cause.ensures, c.in-Refused-layout_cause.is)
+    let number = c.in-Refused.number in
+    rw (← c.form.ensures, c.in-Refused.is, ne_eqb number 1 (omega arith), ne_eqb number 2 (omega arith), ← c.layout_cause.ensures, c.in-Refused-layout_cause.is)
     (shows-one c.put_layout.ensures)
 
 pub returns-in-Passed : goal.returns-in-Passed
 returns-in-Passed c =
-    let other = c.in_default-number.rest in
-    rw (← c.form.ensures, c.in-Refused.is, ne_eqb _ 1 other.0.1, ne_eqb _ 2 other.1, ← c.layout_cause.ensures, c.in-Passed.is)
+    let number = c.in-Refused.number in
+    rw (← c.form.ensures, c.in-Refused.is, ne_eqb number 1 (omega arith), ne_eqb number 2 (omega arith), ← c.layout_cause.ensures, c.in-Passed.is)
     (shows-none _ _)

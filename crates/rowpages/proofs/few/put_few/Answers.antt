@@ -1,17 +1,7 @@
 -- `put_few` puts one row after another. The loop's invariant: the parts of the rows so far were put.
 -- Assumes nothing.
-use mathlib.Core.Path.{◌≡◌}
-use mathlib.Core.List.{List, ◌++◌}
-use Prim.Native.Nat.{ℕ, ◌-◌, ◌≤◌}
-use lib.ListN.{length}
-use Rattle.forms.specs.Shown.{Shows}
-use Rattle.forms.specs.Parts.{parts_of}
 use Rattle.forms.proofs.Shows.{shows_then}
 use Rattle.forms.proofs.Putting.{parts_none, parts_more, parts-counted}
-use Rattle.readout.specs.Facts.{row_in}
-use Rattle.workings.specs.Works.{worked}
-use Rattle.rowpages.specs.Row.{row_parts}
-use Rattle.rowpages.specs.Together.{together_parts}
 use Rattle.rowpages.specs.Rows.{few_parts}
 use native.Mathlib.Omega.{arith}
 use borrow.Author.Rules.{rules}

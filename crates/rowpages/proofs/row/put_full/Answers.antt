@@ -2,7 +2,6 @@
 -- Assumes nothing.
 use Rattle.forms.proofs.Shows.{shows-one, shows_more, shows_then}
 use Rattle.rowpages.specs.Row.{full_parts}
-use borrow.Author.Rules.{rules}
 use Rattle.rowpages.proofs.row.put_full.Goals as goal
 
 pub returns : goal.returns

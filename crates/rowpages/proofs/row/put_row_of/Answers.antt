@@ -1,7 +1,6 @@
 -- `put_row_of` puts a row by its offer and the workings of its book, where both are there.
 -- Assumes nothing.
 use Rattle.forms.proofs.Shows.{shows-none}
-use borrow.Author.Rules.{rules}
 use Rattle.rowpages.proofs.row.put_row_of.Goals as goal
 
 pub returns-in_default : goal.returns-in_default

@@ -2,7 +2,6 @@
 -- Assumes nothing.
 use Rattle.forms.proofs.Shows.{shows-none, shows-one}
 use Rattle.rowpages.specs.Row.{turn_parts}
-use borrow.Author.Rules.{rules}
 use Rattle.rowpages.proofs.row.put_turn_of.Goals as goal
 
 pub returns-then-s : goal.returns-then-s

@@ -1,7 +1,6 @@
 -- `put_worked` puts a row by its share and its workings, where both are there.
 -- Assumes nothing.
 use Rattle.forms.proofs.Shows.{shows-none}
-use borrow.Author.Rules.{rules}
 use Rattle.rowpages.proofs.row.put_worked.Goals as goal
 
 pub returns-in_default : goal.returns-in_default

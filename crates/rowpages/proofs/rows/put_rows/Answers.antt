@@ -2,7 +2,6 @@
 -- Assumes nothing.
 use Rattle.forms.proofs.Shows.{shows-none}
 use Rattle.rowpages.proofs.Accepted.{worked-accepted}
-use borrow.Author.Rules.{rules}
 use Rattle.rowpages.proofs.rows.put_rows.Goals as goal
 
 pub returns-in_default : goal.returns-in_default

@@ -3,7 +3,6 @@
 use borrow.Author.Tests.{eq-eqb, ne_eqb, le-leb, lt-leb}
 use Rattle.forms.proofs.Shows.{shows-none, shows_more}
 use Rattle.rowpages.specs.Rows.{rows_by}
-use borrow.Author.Rules.{rules}
 use Rattle.rowpages.proofs.rows.put_some.Goals as goal
 
 pub returns-then-n-eq0 : goal.returns-then-n-eq0

@@ -1,7 +1,6 @@
 -- `put_line_of` puts the line of a row whose offer is there.
 -- Assumes nothing.
 use Rattle.forms.proofs.Shows.{shows-none, shows-one}
-use borrow.Author.Rules.{rules}
 use Rattle.rowpages.proofs.table.put_line_of.Goals as goal
 
 pub returns-in-Offered : goal.returns-in-Offered

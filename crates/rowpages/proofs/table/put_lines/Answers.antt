@@ -1,13 +1,6 @@
 -- `put_lines` puts the line of one row after another. The loop's invariant: the lines of the rows so far were put.
 -- Assumes nothing.
-use mathlib.Core.Path.{◌≡◌}
-use Prim.Native.Nat.{◌-◌, ◌≤◌}
-use lib.ListN.{length}
-use Rattle.settle.specs.inner.Read.{quoted}
-use Rattle.forms.specs.Shown.{Shows}
-use Rattle.forms.specs.Parts.{parts_of}
 use Rattle.forms.proofs.Putting.{parts_none, parts_more, parts-counted}
-use Rattle.rowpages.specs.inner.Table.{line_by}
 use native.Mathlib.Omega.{arith}
 use borrow.Author.Rules.{rules}
 use Rattle.rowpages.proofs.table.put_lines.Goals as goal

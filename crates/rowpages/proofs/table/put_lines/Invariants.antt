@@ -6,10 +6,7 @@ use lib.ListN.{length}
 use Rattle.settle.specs.inner.Read.{quoted}
 use Rattle.forms.specs.Shown.{Shows}
 use Rattle.forms.specs.Parts.{parts_of}
-use Rattle.forms.proofs.Putting.{parts_none, parts_more, parts-counted}
 use Rattle.rowpages.specs.inner.Table.{line_by}
-use native.Mathlib.Omega.{arith}
-use borrow.Author.Rules.{rules}
 use Rattle.rowpages.proofs.table.put_lines.Given as goal
 
 abbrev pub invariant-loop-row : goal.invariant-loop-row

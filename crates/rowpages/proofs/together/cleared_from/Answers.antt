@@ -1,11 +1,6 @@
 -- `cleared_from` adds one row after another. The loop's invariant: the sum of the rows so far, each of 32 bits.
 -- Assumes nothing.
-use mathlib.Core.Path.{◌≡◌}
-use Prim.Native.Nat.{◌+◌, ◌-◌, ◌*◌, ◌≤◌}
-use Rattle.laws.specs.Sum.{sum_to}
 use Rattle.laws.proofs.Loops.{added_none, added_more}
-use Rattle.workings.specs.Works.{worked}
-use Rattle.rowpages.specs.Together.{cleared_in}
 use Rattle.rowpages.proofs.Added.{added-all}
 use native.Mathlib.Omega.{arith}
 use borrow.Author.Rules.{rules}

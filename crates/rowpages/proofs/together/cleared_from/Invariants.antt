@@ -3,12 +3,8 @@
 use mathlib.Core.Path.{◌≡◌}
 use Prim.Native.Nat.{◌+◌, ◌-◌, ◌*◌, ◌≤◌}
 use Rattle.laws.specs.Sum.{sum_to}
-use Rattle.laws.proofs.Loops.{added_none, added_more}
 use Rattle.workings.specs.Works.{worked}
 use Rattle.rowpages.specs.Together.{cleared_in}
-use Rattle.rowpages.proofs.Added.{added-all}
-use native.Mathlib.Omega.{arith}
-use borrow.Author.Rules.{rules}
 use Rattle.rowpages.proofs.together.cleared_from.Given as goal
 
 abbrev pub invariant-loop-j : goal.invariant-loop-j

@@ -1,6 +1,5 @@
 -- `cleared_of` reads what a row clears from the workings of its book.
 -- Assumes nothing.
-use borrow.Author.Rules.{rules}
 use Rattle.rowpages.proofs.together.cleared_of.Goals as goal
 
 pub returns-in_default : goal.returns-in_default

@@ -1,6 +1,5 @@
 -- `goes_on` reads the step of a row.
 -- Assumes nothing.
-use borrow.Author.Rules.{rules}
 use Rattle.rowpages.proofs.together.goes_on.Goals as goal
 
 pub returns-in-Offered : goal.returns-in-Offered

@@ -1,6 +1,5 @@
 -- `offered_of` reads the quantity of a row.
 -- Assumes nothing.
-use borrow.Author.Rules.{rules}
 use Rattle.rowpages.proofs.together.offered_of.Goals as goal
 
 pub returns-in-Offered : goal.returns-in-Offered

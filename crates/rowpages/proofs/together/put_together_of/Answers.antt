@@ -2,7 +2,6 @@
 -- Assumes nothing.
 use borrow.Author.Tests.{lt-ltb, le-ltb}
 use Rattle.forms.proofs.Shows.{shows-none, shows-one}
-use borrow.Author.Rules.{rules}
 use Rattle.rowpages.proofs.together.put_together_of.Goals as goal
 
 pub returns-in_default : goal.returns-in_default
