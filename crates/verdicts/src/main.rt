@@ -77,9 +77,10 @@ fn judge(rt: &(impl Files + Print + Eprint + Alloc), name: &str) -> io::Result<(
     }
 }
 
+// Goes on with the next book where a line cannot be written.
 fn main(rt: HostRuntime) -> io::Result<()> {
     for name in env::args(&rt)?.skip(1) {
-        judge(&rt, name.as_str())?;
+        let _ = judge(&rt, name.as_str());
     }
     Ok(())
 }
