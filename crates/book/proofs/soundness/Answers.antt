@@ -33,9 +33,10 @@ range-told c = c.parameter_fault.ensures ∙ ap range_fault c.parameters_in.ensu
 
 pub returns-in-Refused-parameter_fault : goal.returns-in-Refused-parameter_fault
 returns-in-Refused-parameter_fault c =
+    let at = goal.at.returns-in-Refused-parameter_fault c in
     sym
-    (sound-formed _ (formed (goal.at.returns-in-Refused-parameter_fault c).In_default)
-    ∙ and_then-refused _ _ _ _ (sym (range-told (goal.at.returns-in-Refused-parameter_fault c).After-parameter_fault) ∙ c.in-Refused-parameter_fault.is))
+    (sound-formed _ (formed at.In_default)
+    ∙ and_then-refused _ _ _ _ (sym (range-told at.After-parameter_fault) ∙ c.in-Refused-parameter_fault.is))
 
 pub edition-requires : goal.edition-requires
 edition-requires c = form-passed-length _ (formed (goal.at.edition-requires c).In_default)
@@ -48,8 +49,9 @@ rows_fault-requires c = rw c.offer_count.ensures.0 (form-inside _ (formed (goal.
 
 pub returns : goal.returns
 returns c =
+    let at = goal.at.returns c in
     c.rows_fault.ensures
     ∙ rows-own _ _ _ _ c.edition.ensures.0 c.offer_count.ensures.0
     ∙ sym
-    (sound-formed _ (formed (goal.at.returns c).In_default)
-    ∙ and_then-next _ _ (sym (range-told (goal.at.returns c).After-parameter_fault) ∙ c.in_default-parameter_fault.is))
+    (sound-formed _ (formed at.In_default)
+    ∙ and_then-next _ _ (sym (range-told at.After-parameter_fault) ∙ c.in_default-parameter_fault.is))

@@ -40,11 +40,13 @@ rows-count c = c.opened-head.ensures.rows ∙ sym (contents-count _)
 
 pub rows_fault-requires : goal.rows_fault-requires
 rows_fault-requires c =
+    let at = goal.at.rows_fault-requires c in
     let b = c.args.book.now in
-    subst (Inside b 1) (sym (rows-count (goal.at.rows_fault-requires c).In_default-fault)) (form-inside b (before-form b (before (goal.at.rows_fault-requires c).In_default-fault)))
+    subst (Inside b 1) (sym (rows-count at.In_default-fault)) (form-inside b (before-form b (before at.In_default-fault)))
 
 pub returns : goal.returns
 returns c =
+    let at = goal.at.returns c in
     c.rows_fault.ensures
-    ∙ rows-own _ _ _ _ (edition-own (goal.at.returns c).In_default-fault) (rows-count (goal.at.returns c).In_default-fault)
-    ∙ sym (first-before _ ∙ and_then-next _ _ (before (goal.at.returns c).In_default-fault))
+    ∙ rows-own _ _ _ _ (edition-own at.In_default-fault) (rows-count at.In_default-fault)
+    ∙ sym (first-before _ ∙ and_then-next _ _ (before at.In_default-fault))

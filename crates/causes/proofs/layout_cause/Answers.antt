@@ -37,8 +37,9 @@ as-head c = c.head_cause.ensures
 pub returns-in-Refused-head_cause : goal.returns-in-Refused-head_cause
 unfolding cause_of
 returns-in-Refused-head_cause c =
-    rw (length-told (goal.at.returns-in-Refused-head_cause c).In_default)
-    (sym (and_then-refused _ _ _ _ (sym (as-head (goal.at.returns-in-Refused-head_cause c).After-head_cause) ∙ c.in-Refused-head_cause.is)))
+    let at = goal.at.returns-in-Refused-head_cause c in
+    rw (length-told at.In_default)
+    (sym (and_then-refused _ _ _ _ (sym (as-head at.After-head_cause) ∙ c.in-Refused-head_cause.is)))
 
 -- past the second block 0 passed, so that the number of offers fits
 head-told : (c : In_default-head_cause) →
@@ -56,8 +57,9 @@ offers_section-requires c = omega (arith, length-holds _ (length-told (goal.at.o
 
 pub section_cause-requires : goal.section_cause-requires
 section_cause-requires c =
-    let n = counted (goal.at.section_cause-requires c).In_default-head_cause (as-head (goal.at.section_cause-requires c).After-head_cause) in
-    let l = length-holds _ (length-told (goal.at.section_cause-requires c).In_default) in
+    let at = goal.at.section_cause-requires c in
+    let n = counted at.In_default-head_cause (as-head at.After-head_cause) in
+    let l = length-holds _ (length-told at.In_default) in
     subst (Fits _) (sym c.offers_section.ensures)
     (record {
       within = omega (arith, n, l);
@@ -68,7 +70,8 @@ section_cause-requires c =
 pub returns : goal.returns
 unfolding cause_of
 returns c =
-    rw (length-told (goal.at.returns c).In_default)
+    let at = goal.at.returns c in
+    rw (length-told at.In_default)
     (c.section_cause.ensures
     ∙ ap (section_cause _) c.offers_section.ensures
-    ∙ sym (and_then-next _ _ (head-told (goal.at.returns c).In_default-head_cause (as-head (goal.at.returns c).After-head_cause))))
+    ∙ sym (and_then-next _ _ (head-told at.In_default-head_cause (as-head at.After-head_cause))))

@@ -25,7 +25,8 @@ bytes-known c i l = omega (arith, c.type_inv.book i)
 
 pub returns-then-room-bytes : goal.returns-then-room-bytes
 returns-then-room-bytes c =
-    converted-short _ _ (owned (goal.at.returns-then-room-bytes c).In_default) (bytes-known (goal.at.returns-then-room-bytes c).In_default) c.if-room-bytes.true c.refused-then-room-bytes.ensures
+    let at = goal.at.returns-then-room-bytes c in
+    converted-short _ _ (owned at.In_default) (bytes-known at.In_default) c.if-room-bytes.true c.refused-then-room-bytes.ensures
 
 pub put_zeros-requires : goal.put_zeros-requires
 put_zeros-requires c =
@@ -36,4 +37,5 @@ put_other-requires c = (own-sound _ (owned (goal.at.put_other-requires c).In_def
 
 pub returns : goal.returns
 returns c =
-    converted-made _ _ (owned (goal.at.returns c).In_default) (bytes-known (goal.at.returns c).In_default) (omega (arith, c.if-room-bytes.false)) c.put_zeros.ensures c.put_other.ensures c.given.ensures
+    let at = goal.at.returns c in
+    converted-made _ _ (owned at.In_default) (bytes-known at.In_default) (omega (arith, c.if-room-bytes.false)) c.put_zeros.ensures c.put_other.ensures c.given.ensures

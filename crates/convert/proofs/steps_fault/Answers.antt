@@ -39,19 +39,27 @@ all-offers c = length-row_offers c.args.book.now c.args.edition 1 c.args.n
 pub returns-then-o-gt1 : goal.returns-then-o-gt1
 unfolding steps_fault
 returns-then-o-gt1 c =
-    let over : 2 ≤ (offer_at (offers (goal.at.returns-then-o-gt1 c).Start) c.loop-row.row).step = omega (arith, c.if-o-gt1.true, ap (λ (o : Offer). o.step) (as-offer (goal.at.returns-then-o-gt1 c).After-offer_in-o)) in
+    let at = goal.at.returns-then-o-gt1 c in
+    let os = offers at.Start in
+    let own = as-offer at.After-offer_in-o in
+    let over : 2 ≤ (offer_at os c.loop-row.row).step = omega (arith, c.if-o-gt1.true, ap (λ (o : Offer). o.step) own) in
     sym
-    (ap (first (one_step (offers (goal.at.returns-then-o-gt1 c).Start))) (all-offers (goal.at.returns-then-o-gt1 c).Start)
-    ∙ first-refused (one_step (offers (goal.at.returns-then-o-gt1 c).Start)) c.args.n c.loop-row.row 11 c.loop-row.row c.loop-row-test.true
-    c.loop-row.invariant.1 (row-refused (offers (goal.at.returns-then-o-gt1 c).Start) c.loop-row.row over))
+    (ap (first (one_step os)) (all-offers at.Start)
+    ∙ first-refused (one_step os) c.args.n c.loop-row.row 11 c.loop-row.row c.loop-row-test.true
+    c.loop-row.invariant.1 (row-refused os c.loop-row.row over))
 
 pub loop-row-preserved : goal.loop-row-preserved
 loop-row-preserved c =
-    let low : (offer_at (offers (goal.at.loop-row-preserved c).Start) c.loop-row.row).step ≤ 1 = omega (arith, c.if-o-gt1.false, ap (λ (o : Offer). o.step) (as-offer (goal.at.loop-row-preserved c).After-offer_in-o)) in
-    (search rules, first_on (one_step (offers (goal.at.loop-row-preserved c).Start)) c.loop-row.row c.loop-row.invariant.1 (row-passed (offers (goal.at.loop-row-preserved c).Start) c.loop-row.row low))
+    let at = goal.at.loop-row-preserved c in
+    let os = offers at.Start in
+    let own = as-offer at.After-offer_in-o in
+    let low : (offer_at os c.loop-row.row).step ≤ 1 = omega (arith, c.if-o-gt1.false, ap (λ (o : Offer). o.step) own) in
+    (search rules, first_on (one_step os) c.loop-row.row c.loop-row.invariant.1 (row-passed os c.loop-row.row low))
 
 pub returns : goal.returns
 unfolding steps_fault
 returns c =
-    let end : c.loop-row.row ≡ length (offers (goal.at.returns c).Start) = omega (arith, c.loop-row-test.false, c.loop-row.invariant.0, all-offers (goal.at.returns c).Start) in
-    sym (ap (first (one_step (offers (goal.at.returns c).Start))) (sym end) ∙ c.loop-row.invariant.1)
+    let at = goal.at.returns c in
+    let os = offers at.Start in
+    let end : c.loop-row.row ≡ length os = omega (arith, c.loop-row-test.false, c.loop-row.invariant.0, all-offers at.Start) in
+    sym (ap (first (one_step os)) (sym end) ∙ c.loop-row.invariant.1)

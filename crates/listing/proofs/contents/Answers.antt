@@ -39,8 +39,9 @@ offer_count-requires c = passed-long _ _ (passed (goal.at.offer_count-requires c
 
 pub returns : goal.returns
 returns c =
+    let at = goal.at.returns c in
     c.contents_out.ensures
-    ∙ contents-passed _ _ (passed (goal.at.returns c).In_default) _ _ _
+    ∙ contents-passed _ _ (passed at.In_default) _ _ _
     (c.edition.ensures.0 ∙ contents-edition _)
-    (read-own (goal.at.returns c).After-parameters_in)
+    (read-own at.After-parameters_in)
     (c.offer_count.ensures.0 ∙ contents-count _)

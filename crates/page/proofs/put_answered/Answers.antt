@@ -1,6 +1,5 @@
 -- `put_answered` puts how a book clears or why it is refused, by what the call answers.
 -- Assumes nothing.
-use borrow.Author.Rules.{rules}
 use Rattle.page.proofs.put_answered.Goals as goal
 
 pub returns-in-Cleared : goal.returns-in-Cleared

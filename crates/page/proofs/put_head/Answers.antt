@@ -2,7 +2,6 @@
 -- Assumes nothing.
 use Rattle.forms.proofs.Shows.{shows_more}
 use Rattle.page.specs.Page.{head_parts}
-use borrow.Author.Rules.{rules}
 use Rattle.page.proofs.put_head.Goals as goal
 
 pub returns-in-Stated : goal.returns-in-Stated

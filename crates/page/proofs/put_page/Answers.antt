@@ -2,7 +2,6 @@
 -- Assumes nothing.
 use Rattle.forms.proofs.Shows.{shows_then}
 use Rattle.page.specs.Page.{page_parts}
-use borrow.Author.Rules.{rules}
 use Rattle.page.proofs.put_page.Goals as goal
 
 pub returns : goal.returns

@@ -37,5 +37,6 @@ read-own c = c.parameters_in.ensures ∙ contents-parameters _
 
 pub returns : goal.returns
 returns c =
-    head-stated _ _ _ _ _ (formed (goal.at.returns c).In_default) (c.edition.ensures.0 ∙ contents-edition _)
-    (read-own (goal.at.returns c).After-parameters_in) (c.offer_count.ensures.0 ∙ contents-count _)
+    let at = goal.at.returns c in
+    head-stated _ _ _ _ _ (formed at.In_default) (c.edition.ensures.0 ∙ contents-edition _)
+    (read-own at.After-parameters_in) (c.offer_count.ensures.0 ∙ contents-count _)

@@ -2,8 +2,7 @@
 -- `give` adds to it.
 -- Assumes nothing.
 use mathlib.Core.Path.{◌≡◌, sym, ◌∙◌}
-use mathlib.Core.List.{List}
-use Prim.Native.Nat.{ℕ, ◌-◌, ◌≤◌}
+use Prim.Native.Nat.{◌-◌, ◌≤◌}
 use native.Mathlib.Omega.{arith}
 use borrow.Author.Rules.{rules}
 use Rattle.laws.proofs.Filling.{length-filling}
@@ -38,11 +37,8 @@ parts-requires c =
       n_in_bounds = search rules;
     }
 
-abbrev parted : After-parts → List ℕ
-parted c = c.parts.new.out
-
 holds : (c : After-parts) → let a = c.args in
-    HoldsParts a.level a.prices.now a.quantities.now a.n (parted c)
+    HoldsParts a.level a.prices.now a.quantities.now a.n c.parts.new.out
 holds c =
     let long = c.requires.n_in_bounds in
     let same = length-filling _ _ _ c.parts.ensures in
@@ -50,7 +46,8 @@ holds c =
 
 pub held_at-requires : goal.held_at-requires
 held_at-requires c =
-    parts-rows _ _ _ _ (divides (goal.at.held_at-requires c).Start) (parted (goal.at.held_at-requires c).After-parts) (holds (goal.at.held_at-requires c).After-parts)
+    let at = goal.at.held_at-requires c in
+    parts-rows _ _ _ _ (divides at.Start) c.parts.new.out (holds at.After-parts)
 
 -- what the level holds is at most its amount, and leaves its spare tenths
 spares : (c : After-held_at) → HoldsParts c.args.level c.args.prices.now c.args.quantities.now c.args.n c.parts.new.out
@@ -62,11 +59,21 @@ spares c own =
     c.held_at.ensures
 
 pub overflow_sub-spare : goal.overflow_sub-spare
-overflow_sub-spare c = (spares (goal.at.overflow_sub-spare c).After-held_at (holds (goal.at.overflow_sub-spare c).After-parts)).0
+overflow_sub-spare c =
+    let at = goal.at.overflow_sub-spare c in
+    (spares at.After-held_at (holds at.After-parts)).0
 
 pub give-requires : goal.give-requires
 give-requires c =
-    record { divides = divides (goal.at.give-requires c).Start; ordered = c.requires.row_lists.1; stopped = stopped (goal.at.give-requires c).After-held_at; holds = holds (goal.at.give-requires c).After-parts; tenths = (spares (goal.at.give-requires c).After-held_at (holds (goal.at.give-requires c).After-parts)).1 }
+    let at = goal.at.give-requires c in
+    let own = holds at.After-parts in
+    record {
+      divides = divides at.Start;
+      ordered = c.requires.row_lists.1;
+      stopped = stopped at.After-held_at;
+      holds = own;
+      tenths = (spares at.After-held_at own).1;
+    }
 
 pub returns-then-spare-gt0 : goal.returns-then-spare-gt0
 returns-then-spare-gt0 c =
@@ -74,4 +81,6 @@ returns-then-spare-gt0 c =
 
 pub returns-else-spare-gt0 : goal.returns-else-spare-gt0
 returns-else-spare-gt0 c =
-    parts_shared (rows (goal.at.returns-else-spare-gt0 c).After-held_at) _ _ (stopped (goal.at.returns-else-spare-gt0 c).After-held_at) c.requires.n_in_bounds c.parts.ensures (sym (spares (goal.at.returns-else-spare-gt0 c).After-held_at (holds (goal.at.returns-else-spare-gt0 c).After-parts)).1 ∙ omega arith)
+    let at = goal.at.returns-else-spare-gt0 c in
+    parts_shared (rows at.After-held_at) _ _ (stopped at.After-held_at) c.requires.n_in_bounds c.parts.ensures
+    (sym (spares at.After-held_at (holds at.After-parts)).1 ∙ omega arith)

@@ -1,11 +1,8 @@
 -- `put_right` puts the fill, one byte a turn, and then the bytes, where both fit.
 -- Assumes nothing.
-use mathlib.Core.Path.{◌≡◌}
-use Prim.Native.Nat.{◌-◌, ◌≤◌}
+use Prim.Native.Nat.{◌-◌}
 use native.Mathlib.Omega.{arith}
-use lib.ListN.{length, replicate}
 use borrow.Author.Rules.{rules}
-use Rattle.text.specs.Put.{Written}
 use Rattle.text.proofs.Puts.{written-past, written_none, written-clamped}
 use Rattle.text.proofs.Fills.{length-right, written-more, written-right}
 use Rattle.text.proofs.put_right.Goals as goal

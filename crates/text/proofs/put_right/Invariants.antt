@@ -2,12 +2,8 @@
 -- Assumes nothing.
 use mathlib.Core.Path.{◌≡◌}
 use Prim.Native.Nat.{◌-◌, ◌≤◌}
-use native.Mathlib.Omega.{arith}
 use lib.ListN.{length, replicate}
-use borrow.Author.Rules.{rules}
 use Rattle.text.specs.Put.{Written}
-use Rattle.text.proofs.Puts.{written-past, written_none, written-clamped}
-use Rattle.text.proofs.Fills.{length-right, written-more, written-right}
 use Rattle.text.proofs.put_right.Given as goal
 
 abbrev pub invariant-loop-i : goal.invariant-loop-i

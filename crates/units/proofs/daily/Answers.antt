@@ -1,6 +1,6 @@
 -- `units::daily` meets its contract. The amount times its quarters is at most 7,000,000, so that nothing wraps.
 -- Assumes nothing.
-use Prim.Native.Nat.{◌*◌, ◌≤◌}
+use Prim.Native.Nat.{ℕ, ◌*◌, ◌≤◌}
 use mathlib.Core.Path.{refl}
 use native.Mathlib.Nat.{mul-le-mul}
 use native.Mathlib.Omega.{arith}
@@ -8,36 +8,35 @@ use Rattle.laws.specs.Nearest.{nearest}
 use Rattle.units.specs.Conversion.{daily_cents}
 use Rattle.units.proofs.Conversions.{daily-most}
 use Rattle.units.proofs.daily.Goals as goal
-use Rattle.units.proofs.daily.Goals.{After-struct_known-1}
 
 -- the amount in quarters of a dollar
-quarters-most : (c : After-struct_known-1) → c.args.amount.0 * c.args.quarters ≤ 1000000 * 7
-quarters-most c = mul-le-mul c.requires.0 c.requires.1
+quarters-most : (amount quarters : ℕ) → amount ≤ 1000000 → quarters ≤ 7 → amount * quarters ≤ 1000000 * 7
+quarters-most amount quarters a q = mul-le-mul a q
 
 -- the price is at most 958,904
-price-most : (c : After-struct_known-1)
-    → daily_cents (c.args.amount.0 * c.args.quarters) c.args.outage ≤ 958904
-price-most c = daily-most _ _ (quarters-most c) c.requires.2
+price-most : (amount quarters outage : ℕ) → amount ≤ 1000000 → quarters ≤ 7 → outage ≤ 5000
+    → daily_cents (amount * quarters) outage ≤ 958904
+price-most amount quarters outage a q o = daily-most _ _ (quarters-most amount quarters a q) o
 
 pub overflow_mul-exact : goal.overflow_mul-exact
-overflow_mul-exact c = omega (arith, quarters-most (goal.at.overflow_mul-exact c).After-struct_known-1)
+overflow_mul-exact c = omega (arith, quarters-most _ _ c.requires.0 c.requires.1)
 
 pub overflow_mul-exact-2 : goal.overflow_mul-exact-2
-overflow_mul-exact-2 c = omega (arith, quarters-most (goal.at.overflow_mul-exact-2 c).After-struct_known-1)
+overflow_mul-exact-2 c = omega (arith, quarters-most _ _ c.requires.0 c.requires.1)
 
 pub overflow_mul-exact-3 : goal.overflow_mul-exact-3
-overflow_mul-exact-3 c = omega (arith, quarters-most (goal.at.overflow_mul-exact-3 c).After-struct_known-1)
+overflow_mul-exact-3 c = omega (arith, quarters-most _ _ c.requires.0 c.requires.1)
 
 pub overflow_mul-nearest : goal.overflow_mul-nearest
-overflow_mul-nearest c = omega (arith, quarters-most (goal.at.overflow_mul-nearest c).After-struct_known-1)
+overflow_mul-nearest c = omega (arith, quarters-most _ _ c.requires.0 c.requires.1)
 
 pub overflow_add-nearest : goal.overflow_add-nearest
-overflow_add-nearest c = omega (arith, quarters-most (goal.at.overflow_add-nearest c).After-struct_known-1)
+overflow_add-nearest c = omega (arith, quarters-most _ _ c.requires.0 c.requires.1)
 
 pub overflow_cast-cents : goal.overflow_cast-cents
 unfolding daily_cents nearest
-overflow_cast-cents c = omega (arith, price-most (goal.at.overflow_cast-cents c).After-struct_known-1)
+overflow_cast-cents c = omega (arith, price-most _ _ _ c.requires.0 c.requires.1 c.requires.2)
 
 pub returns : goal.returns
 unfolding daily_cents nearest
-returns c = (refl, price-most (goal.at.returns c).After-struct_known-1)
+returns c = (refl, price-most _ _ _ c.requires.0 c.requires.1 c.requires.2)

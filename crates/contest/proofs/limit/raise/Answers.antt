@@ -19,10 +19,11 @@ overflow_add-low c = omega (arith, (moved (goal.at.overflow_add-low c).After-low
 
 pub look-requires : goal.look-requires
 look-requires c =
+    let at = goal.at.look-requires c in
     record {
       keyed = c.requires.keyed;
-      between = moved (goal.at.look-requires c).After-lowest_from-low;
-      low_le_mid = omega (arith, (moved (goal.at.look-requires c).After-lowest_from-low).ordered);
+      between = moved at.After-lowest_from-low;
+      low_le_mid = omega (arith, (moved at.After-lowest_from-low).ordered);
     }
 
 pub returns : goal.returns

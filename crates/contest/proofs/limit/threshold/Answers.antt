@@ -10,11 +10,10 @@ use Rattle.contest.proofs.limit.threshold.Goals as goal
 
 pub returns-then-many-spare : goal.returns-then-many-spare
 returns-then-many-spare c =
-    let known = c.shared_slice_known-1 in
     record {
       parts =
           parts-top _ _ _ _ _
-          (λ i l. c.highest_to-high.ensures.none i l (omega (arith, known.given i)))
+          (λ i l. c.highest_to-high.ensures.none i l (omega (arith, c.type_inv.keys i)))
           (omega (arith, c.under-many.ensures.0));
       won = c.under-many.ensures.0;
     }

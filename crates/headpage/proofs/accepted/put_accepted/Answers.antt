@@ -2,7 +2,6 @@
 -- Assumes nothing.
 use Rattle.forms.proofs.Shows.{shows-none}
 use Rattle.headpage.specs.Accepted.{accepted_parts}
-use borrow.Author.Rules.{rules}
 use Rattle.headpage.proofs.accepted.put_accepted.Goals as goal
 
 pub returns-in-Worked : goal.returns-in-Worked

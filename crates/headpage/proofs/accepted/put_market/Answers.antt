@@ -2,7 +2,6 @@
 -- Assumes nothing.
 use Rattle.forms.proofs.Shows.{shows-one, shows_more}
 use Rattle.headpage.specs.Accepted.{market_parts}
-use borrow.Author.Rules.{rules}
 use Rattle.headpage.proofs.accepted.put_market.Goals as goal
 
 pub returns : goal.returns

@@ -2,7 +2,6 @@
 -- Assumes nothing.
 use Rattle.forms.proofs.Shows.{shows_then}
 use Rattle.headpage.specs.Accepted.{cleared_parts}
-use borrow.Author.Rules.{rules}
 use Rattle.headpage.proofs.accepted.put_worked.Goals as goal
 
 pub returns : goal.returns

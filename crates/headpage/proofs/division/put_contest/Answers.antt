@@ -2,7 +2,6 @@
 -- Assumes nothing.
 use Rattle.forms.proofs.Shows.{shows-one, shows_more, shows_then}
 use Rattle.headpage.specs.Division.{contest_parts}
-use borrow.Author.Rules.{rules}
 use Rattle.headpage.proofs.division.put_contest.Goals as goal
 
 pub returns : goal.returns

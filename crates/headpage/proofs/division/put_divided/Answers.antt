@@ -3,7 +3,6 @@
 use borrow.Author.Tests.{eq-eqb, ne_eqb}
 use Rattle.forms.proofs.Shows.{shows-none, shows-one, shows_more}
 use Rattle.headpage.specs.Division.{divided_parts}
-use borrow.Author.Rules.{rules}
 use Rattle.headpage.proofs.division.put_divided.Goals as goal
 
 pub returns-then-level : goal.returns-then-level

@@ -1,7 +1,6 @@
 -- `put_place_of` puts who holds a place, where someone does.
 -- Assumes nothing.
 use Rattle.forms.proofs.Shows.{shows-none, shows-one}
-use borrow.Author.Rules.{rules}
 use Rattle.headpage.proofs.division.put_place_of.Goals as goal
 
 pub returns-in-Held : goal.returns-in-Held

@@ -1,14 +1,8 @@
 -- `put_places` puts one place after another. The loop's invariant: the places so far were put.
 -- Assumes nothing.
-use mathlib.Core.Path.{◌≡◌}
-use Prim.Native.Nat.{◌+◌, ◌-◌, ◌≤◌}
-use lib.ListN.{length}
-use Rattle.forms.specs.Shown.{Shows}
-use Rattle.forms.specs.Parts.{parts_of}
+use Prim.Native.Nat.{◌-◌}
 use Rattle.forms.proofs.Putting.{parts_none, parts_more, parts-counted}
-use Rattle.workings.specs.Works.{worked}
-use Rattle.headpage.specs.Facts.{placed_in}
-use Rattle.headpage.specs.Division.{place_parts, places_parts}
+use Rattle.headpage.specs.Division.{places_parts}
 use native.Mathlib.Omega.{arith}
 use borrow.Author.Rules.{rules}
 use Rattle.headpage.proofs.division.put_places.Goals as goal

@@ -5,12 +5,9 @@ use Prim.Native.Nat.{◌+◌, ◌-◌, ◌≤◌}
 use lib.ListN.{length}
 use Rattle.forms.specs.Shown.{Shows}
 use Rattle.forms.specs.Parts.{parts_of}
-use Rattle.forms.proofs.Putting.{parts_none, parts_more, parts-counted}
 use Rattle.workings.specs.Works.{worked}
 use Rattle.headpage.specs.Facts.{placed_in}
-use Rattle.headpage.specs.Division.{place_parts, places_parts}
-use native.Mathlib.Omega.{arith}
-use borrow.Author.Rules.{rules}
+use Rattle.headpage.specs.Division.{place_parts}
 use Rattle.headpage.proofs.division.put_places.Given as goal
 
 abbrev pub invariant-loop-j : goal.invariant-loop-j

@@ -1,7 +1,6 @@
 -- `ladder_of` answers the ladder of the workings, or one that has no rung.
 -- Assumes nothing.
 use mathlib.Core.Path.{refl}
-use borrow.Author.Rules.{rules}
 use Rattle.headpage.proofs.facts.ladder_of.Goals as goal
 
 pub returns-in-Worked : goal.returns-in-Worked

@@ -1,7 +1,6 @@
 -- `placed_of` answers who holds a place in the contest of the workings, or no one.
 -- Assumes nothing.
 use mathlib.Core.Path.{refl}
-use borrow.Author.Rules.{rules}
 use Rattle.headpage.proofs.facts.placed_of.Goals as goal
 
 pub returns-in-Worked : goal.returns-in-Worked

@@ -1,7 +1,6 @@
 -- `put_ladder_head` puts the ladder's head where there is a first rung.
 -- Assumes nothing.
 use Rattle.forms.proofs.Shows.{shows-none, shows-one}
-use borrow.Author.Rules.{rules}
 use Rattle.headpage.proofs.rungs.put_ladder_head.Goals as goal
 
 pub returns-in-Reached : goal.returns-in-Reached

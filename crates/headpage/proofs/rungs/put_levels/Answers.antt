@@ -1,15 +1,9 @@
 -- `put_levels` puts the head and one rung after another. The loop's invariant: the rungs so far were put behind the head.
 -- Assumes nothing.
-use mathlib.Core.Path.{◌≡◌}
-use Prim.Native.Nat.{◌≤◌, ◌-◌}
-use lib.ListN.{length}
-use Rattle.forms.specs.Shown.{Shows}
-use Rattle.forms.specs.Parts.{parts_of}
+use Prim.Native.Nat.{◌-◌}
 use Rattle.forms.proofs.Shows.{shows_then}
 use Rattle.forms.proofs.Putting.{parts_none, parts_more, parts-counted}
-use Rattle.workings.specs.Works.{worked}
-use Rattle.headpage.specs.Facts.{ladder_in}
-use Rattle.headpage.specs.Levels.{rung_parts, levels_parts}
+use Rattle.headpage.specs.Levels.{levels_parts}
 use native.Mathlib.Omega.{arith}
 use borrow.Author.Rules.{rules}
 use Rattle.headpage.proofs.rungs.put_levels.Goals as goal

@@ -5,13 +5,9 @@ use Prim.Native.Nat.{◌≤◌, ◌-◌}
 use lib.ListN.{length}
 use Rattle.forms.specs.Shown.{Shows}
 use Rattle.forms.specs.Parts.{parts_of}
-use Rattle.forms.proofs.Shows.{shows_then}
-use Rattle.forms.proofs.Putting.{parts_none, parts_more, parts-counted}
 use Rattle.workings.specs.Works.{worked}
 use Rattle.headpage.specs.Facts.{ladder_in}
-use Rattle.headpage.specs.Levels.{rung_parts, levels_parts}
-use native.Mathlib.Omega.{arith}
-use borrow.Author.Rules.{rules}
+use Rattle.headpage.specs.Levels.{rung_parts}
 use Rattle.headpage.proofs.rungs.put_levels.Given as goal
 
 abbrev pub invariant-loop-k : goal.invariant-loop-k

@@ -1,7 +1,6 @@
 -- `put_rung_of` puts a rung that is there.
 -- Assumes nothing.
 use Rattle.forms.proofs.Shows.{shows-none, shows-one}
-use borrow.Author.Rules.{rules}
 use Rattle.headpage.proofs.rungs.put_rung_of.Goals as goal
 
 pub returns-in-Reached : goal.returns-in-Reached

@@ -33,7 +33,8 @@ counted c own = head-holds _ _ (sym own ∙ c.if-not-head_holds.false)
 
 pub section_fault-requires : goal.section_fault-requires
 section_fault-requires c =
-    let n = counted (goal.at.section_fault-requires c).Else-not-head_holds (as-head (goal.at.section_fault-requires c).After-head_holds) in
+    let at = goal.at.section_fault-requires c in
+    let n = counted at.Else-not-head_holds (as-head at.After-head_holds) in
     subst (Fits _) (sym c.offers_section.ensures)
     (record {
       within = omega (arith, n);

@@ -45,12 +45,13 @@ level_at-level-requires c =
     (c.requires.0, upto (goal.at.level_at-level-requires c).After-supply_at-reach, c.narrow-at.ensures.0.within)
 
 pub returns-then-stops : goal.returns-then-stops
-returns-then-stops c = (
-  reached-stops (demand_of c.args.c) (offers (goal.at.returns-then-stops c).After-supply_at-reach) (curve-falls _ c.requires.0) _ c.narrow-at.ensures.0 _ _
-      (below (goal.at.returns-then-stops c).After-supply_at-reach) c.supply_at-reach.ensures.0 _ c.level_at-level.ensures
-      (capped (goal.at.returns-then-stops c).Start) c.next_tried-price.ensures.high (sym c.stops.ensures ∙ c.if-stops.true),
-  omega (arith, c.level_at-level.ensures.total.end),
-)
+returns-then-stops c =
+    let at = goal.at.returns-then-stops c in (
+      reached-stops (demand_of c.args.c) (offers at.After-supply_at-reach) (curve-falls _ c.requires.0) _ c.narrow-at.ensures.0 _ _
+          (below at.After-supply_at-reach) c.supply_at-reach.ensures.0 _ c.level_at-level.ensures
+          (capped at.Start) c.next_tried-price.ensures.high (sym c.stops.ensures ∙ c.if-stops.true),
+      omega (arith, c.level_at-level.ensures.total.end),
+    )
 
 -- where the search goes on, the total goes past the level
 past : (c : Else-stops) → stops_there c.level_at-level.result ≡ false
@@ -67,5 +68,6 @@ loop-c-smaller c =
 
 pub loop-c-preserved : goal.loop-c-preserved
 loop-c-preserved c =
-    reached-all (demand_of c.args.c) (offers (goal.at.loop-c-preserved c).After-supply_at-reach) (curve-falls _ c.requires.0) _ c.narrow-at.ensures.0 _ _
-    (below (goal.at.loop-c-preserved c).After-supply_at-reach) c.supply_at-reach.ensures.0 _ c.level_at-level.ensures (past (goal.at.loop-c-preserved c).Else-stops) (under-most (goal.at.loop-c-preserved c).Else-stops)
+    let at = goal.at.loop-c-preserved c in
+    reached-all (demand_of c.args.c) (offers at.After-supply_at-reach) (curve-falls _ c.requires.0) _ c.narrow-at.ensures.0 _ _
+    (below at.After-supply_at-reach) c.supply_at-reach.ensures.0 _ c.level_at-level.ensures (past at.Else-stops) (under-most at.Else-stops)

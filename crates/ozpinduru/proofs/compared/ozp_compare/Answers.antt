@@ -2,7 +2,6 @@
 -- Assumes nothing.
 use mathlib.Core.Path.{ap, ◌∙◌}
 use Rattle.ozpinduru.specs.Compared.{compared_out}
-use borrow.Author.Rules.{rules}
 use Rattle.ozpinduru.proofs.compared.ozp_compare.Goals as goal
 
 pub returns : goal.returns

@@ -2,7 +2,6 @@
 -- Assumes nothing.
 use Rattle.forms.proofs.Shows.{shows-none}
 use Rattle.page.specs.Page.{row_page_parts}
-use borrow.Author.Rules.{rules}
 use Rattle.page.proofs.row.put_row_page.Goals as goal
 
 pub returns-in_default : goal.returns-in_default

@@ -71,13 +71,14 @@ pub overflow_add-row : goal.overflow_add-row
 overflow_add-row c = omega (arith, c.loop-row-test.true, c.ranges.n)
 
 pub loop-row-preserved : goal.loop-row-preserved
-loop-row-preserved c = (
-  search rules,
-  (
-    search rules,
-    tested-more _ _ _ _ c.loop-row.invariant.1.1 (as-offer (goal.at.loop-row-preserved c).After-offer_in-o) (sym (as-fault (goal.at.loop-row-preserved c).Joined-o-eq1 (as-offer (goal.at.loop-row-preserved c).After-offer_in-o)) ∙ c.in_default.is),
-  ),
-)
+loop-row-preserved c =
+    let at = goal.at.loop-row-preserved c in (
+      search rules,
+      (
+        search rules,
+        tested-more _ _ _ _ c.loop-row.invariant.1.1 (as-offer at.After-offer_in-o) (sym (as-fault at.Joined-o-eq1 (as-offer at.After-offer_in-o)) ∙ c.in_default.is),
+      ),
+    )
 
 pub shape_of-resources : goal.shape_of-resources
 shape_of-resources c = length-filling _ _ _ c.loop-row.invariant.1.1.resource

@@ -2,7 +2,6 @@
 -- 117,178,068,800,000.
 -- Assumes nothing.
 use mathlib.Core.Path.{refl, sym, ap, subst, ◌∙◌}
-use mathlib.Core.List.{List}
 use Prim.Native.Nat.{ℕ, ◌+◌, ◌≤◌}
 use native.Mathlib.Nat.{lt_of_le_of_lt, mul-le-mul}
 use native.Mathlib.Omega.{arith}
@@ -36,22 +35,20 @@ columns c =
     let a = c.args in
     columns_of a.prices.now a.quantities.now a.leasts.now a.resources.now a.stamps.now a.steps.now
 
-abbrev amounts : After-sell-sale → List ℕ
-amounts c = c.sell-sale.new.amounts
-
 -- the sale is that of any contents in the columns
 sold : (c : After-sell-sale) (k : Contents) → Stands k c.args.p c.args.n (columns c)
-    → SoldAs k c.args.cleared.now c.sell-sale.result (amounts c)
+    → SoldAs k c.args.cleared.now c.sell-sale.result c.sell-sale.new.amounts
 sold c k s =
     sold-contents k _ _ (columns c) s _ c.region_curve.ensures.0 _ _ _ c.requires.n_in_bounds.0 c.sell-sale.ensures
 
 -- of some contents that stand there
-some : (c : After-sell-sale) → SoldAs c.requires.some_stand.contents c.args.cleared.now c.sell-sale.result (amounts c)
+some : (c : After-sell-sale) → SoldAs c.requires.some_stand.contents c.args.cleared.now c.sell-sale.result c.sell-sale.new.amounts
 some c = sold c c.requires.some_stand.contents c.requires.some_stand.stands
 
 pub commit-past-requires : goal.commit-past-requires
 commit-past-requires c =
-    (cleared-committable _ _ _ (columns (goal.at.commit-past-requires c).After-sell-sale) c.requires.some_stand.stands _ (amounts (goal.at.commit-past-requires c).After-sell-sale) c.requires.n_in_bounds.0 (some (goal.at.commit-past-requires c).After-sell-sale).amounts, c.requires.n_in_bounds.1)
+    let at = goal.at.commit-past-requires c in
+    (cleared-committable _ _ _ (columns at.After-sell-sale) c.requires.some_stand.stands _ c.sell-sale.new.amounts c.requires.n_in_bounds.0 (some at.After-sell-sale).amounts, c.requires.n_in_bounds.1)
 
 -- the price on what cleared, and all make-whole
 daily-most : (c : After-mills_of)
@@ -70,26 +67,31 @@ daily-most c own =
     )
 
 pub overflow_add-daily : goal.overflow_add-daily
-overflow_add-daily c = omega (arith, daily-most (goal.at.overflow_add-daily c).After-mills_of (some (goal.at.overflow_add-daily c).After-sell-sale))
+overflow_add-daily c =
+    let at = goal.at.overflow_add-daily c in
+    omega (arith, daily-most at.After-mills_of (some at.After-sell-sale))
 
 pub overflow_mul-result : goal.overflow_mul-result
 overflow_mul-result c =
-    record { fits = lt_of_le_of_lt (mul-le-mul c.days_of.ensures.1 (daily-most (goal.at.overflow_mul-result c).After-mills_of (some (goal.at.overflow_mul-result c).After-sell-sale))) (lit< tt) }
+    let at = goal.at.overflow_mul-result c in
+    record { fits = lt_of_le_of_lt (mul-le-mul c.days_of.ensures.1 (daily-most at.After-mills_of (some at.After-sell-sale))) (lit< tt) }
 
 pub returns : goal.returns
-returns c = λ k s.
+returns c =
+    let at = goal.at.returns c in
+    λ k s.
     let long = c.requires.n_in_bounds.0 in
-    let sale = sold (goal.at.returns c).After-sell-sale k s in
+    let sale = sold at.After-sell-sale k s in
     let paid = c.commit-past.ensures in
     record {
       clearing =
-          clearing-is k _ _ (columns (goal.at.returns c).After-sell-sale) s _ _ _ _ _ _ sale.quantity sale.quote
+          clearing-is k _ _ (columns at.After-sell-sale) s _ _ _ _ _ _ sale.quantity sale.quote
           (c.mills_of-make_whole.ensures
           ∙ ap (mills (quoted c.sell-sale.result.price)) paid.value.0
-          ∙ whole-paid k _ _ (columns (goal.at.returns c).After-sell-sale) s _ (amounts (goal.at.returns c).After-sell-sale) long sale.amounts _ sale.quote)
+          ∙ whole-paid k _ _ (columns at.After-sell-sale) s _ c.sell-sale.new.amounts long sale.amounts _ sale.quote)
           (ap (λ (m : ℕ). m + c.mills_of-make_whole.result) c.mills_of.ensures)
           c.days_of.ensures.0
           refl;
       cleared-holds = sale.amounts;
-      committed-holds = committed-list k _ _ (columns (goal.at.returns c).After-sell-sale) s _ (amounts (goal.at.returns c).After-sell-sale) long sale.amounts _ _ paid.out_after;
+      committed-holds = committed-list k _ _ (columns at.After-sell-sale) s _ c.sell-sale.new.amounts long sale.amounts _ _ paid.out_after;
     }

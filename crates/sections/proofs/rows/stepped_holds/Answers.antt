@@ -16,5 +16,5 @@ returns c =
     ap (λ (n : ℕ). leb (n % 256 + n / 65536 * 65536) last.marks) c.u32_at-number.ensures.0
     ∙ sym
     (last-holds-stepped last c.args.p.now small c.if-last.false width
-    (omega (arith, c.shared_slice_known-1.given 28))
-    (omega (arith, c.shared_slice_known-1.given 29)))
+    (omega (arith, c.type_inv.p 28))
+    (omega (arith, c.type_inv.p 29)))

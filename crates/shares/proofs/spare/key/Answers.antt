@@ -24,11 +24,13 @@ overflow_sub-left c = omega (arith, (left (goal.at.overflow_sub-left c).After-ex
 
 pub overflow_cast-result : goal.overflow_cast-result
 overflow_cast-result c =
-    omega (arith, (left (goal.at.overflow_cast-result c).After-exact).0, (left (goal.at.overflow_cast-result c).After-exact).1, c.requires.divides.low)
+    let at = goal.at.overflow_cast-result c in
+    omega (arith, (left at.After-exact).0, (left at.After-exact).1, c.requires.divides.low)
 
 pub overflow_sub-result : goal.overflow_sub-result
 overflow_sub-result c =
-    omega (arith, (left (goal.at.overflow_sub-result c).After-exact).0, (left (goal.at.overflow_sub-result c).After-exact).1)
+    let at = goal.at.overflow_sub-result c in
+    omega (arith, (left at.After-exact).0, (left at.After-exact).1)
 
 pub returns-then-price-level : goal.returns-then-price-level
 returns-then-price-level c =

@@ -4,7 +4,6 @@ use mathlib.Core.Path.{◌≡◌}
 use native.Mathlib.Nat.{le_refl}
 use native.Mathlib.Omega.{arith}
 use lib.ListN.{take}
-use borrow.Author.Rules.{rules}
 use Rattle.text.specs.inner.Number.{decimal_text}
 use Rattle.text.proofs.Numbers.{decimal-parts}
 use Rattle.text.proofs.number.put_decimal.Goals as goal

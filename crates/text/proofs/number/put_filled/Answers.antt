@@ -1,7 +1,6 @@
 -- `put_filled` puts the digits that `io::decimal` spells.
 -- Assumes nothing.
 use native.Mathlib.Omega.{arith}
-use borrow.Author.Rules.{rules}
 use Rattle.text.proofs.DigitCounts.{decimal-text}
 use Rattle.text.proofs.number.put_filled.Goals as goal
 

@@ -1,6 +1,5 @@
 -- `put_number` puts the digits with nothing in front.
 -- Assumes nothing.
-use borrow.Author.Rules.{rules}
 use Rattle.text.proofs.Fills.{right-none}
 use Rattle.text.proofs.number.put_number.Goals as goal
 

@@ -44,11 +44,12 @@ rival_at-requires c =
 
 pub returns : goal.returns
 returns c =
+    let at = goal.at.returns c in
     let a = c.args in
-    turn_is (rows (goal.at.returns c).After-tenth) a.x a.row _ _ _ _ _ _ c.rank_at-place.ensures.0
+    turn_is (rows at.After-tenth) a.x a.row _ _ _ _ _ _ c.rank_at-place.ensures.0
     (c.contenders_at.ensures
     ∙ contenders-rows a.prices.now a.quantities.now a.stamps.now a.resources.now a.steps.now a.n _)
-    (spares (goal.at.returns c).After-tenth)
+    (spares at.After-tenth)
     (c.part_at.ensures.0
     ∙ down-rows a.prices.now a.quantities.now a.stamps.now a.resources.now a.steps.now a.n a.x a.row)
     c.tenth.ensures.0
