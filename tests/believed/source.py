@@ -9,6 +9,10 @@ TYPE = re.compile(r"(?:pub(?:\(crate\))? )?(?:struct|enum) (\w+)")
 FUNCTION = re.compile(r"(pub(?:\(crate\))? )?(extern \"C\" )?fn (\w+)")
 
 
+# the types that code has without an import
+PRELUDE = {"Option", "Result", "Self"}
+
+
 def clause(line):
     return line.strip().startswith(("requires", "ensures"))
 
@@ -45,7 +49,8 @@ class Declared:
         """The names of types that it is written with: after a colon or in brackets."""
         texts = [self.signature] if self.signature else self.lines
         written = [part for text in texts for part in re.findall(r":(?!:)[^:]*|\(.*\)|->.*", text)]
-        return [name for part in written for name in re.findall(r"\b[A-Z]\w*", part)]
+        sizes = set(re.findall(r"\bconst (\w+):", " ".join(texts)))
+        return [name for part in written for name in re.findall(r"\b[A-Z]\w*", part) if name not in PRELUDE | sizes]
 
     def equations(self):
         """Code has none."""
@@ -79,6 +84,8 @@ class Source:
             self.imports.add(line)
         elif line.startswith("use "):
             self.use(line)
+        elif line.startswith("pub use "):
+            self.hand_on(line)
         elif TYPE.match(line):
             self.declare(TYPE.match(line)[1], place, self.body(lines, place), "type")
         elif FUNCTION.match(line):
@@ -95,6 +102,13 @@ class Source:
         for name in re.findall(r"\b[A-Z]\w*", last):
             if crate in self.imports.crates:
                 self.imports.names[name] = Target(crate, "src", "/".join(steps[1:]) or "lib", name)
+
+    def hand_on(self, line):
+        """`pub use a::T;`: the types of a module of this crate that it hands on."""
+        path, _, last = line[8:].rstrip(";").rpartition("::")
+        for name in re.findall(r"\b[A-Z]\w*", last):
+            self.imports.names[name] = Target(self.crate, "src", path.replace("::", "/"), name)
+            self.imports.handed_on.add(name)
 
     def body(self, lines, place):
         """The lines of a type, without comments."""

@@ -6,11 +6,11 @@ use mathlib.Core.List.{List}
 use Prim.Native.Nat.{ℕ}
 use contract.Lifetimes.{Lfts}
 use denote.Ref.{Bor}
-use Rattle.call.specs.declared.Answer.{Answer}
 use Rattle.plain.specs.declared.structs.OzpAnswer.{OzpAnswer}
 use Rattle.answers.specs.inner.Answers.{rows_stated}
 use Rattle.answers.proofs.answer.Reads as answer
 use Rattle.answers.proofs.rows_stated.Reads as rows-stated
+use Rattle.call.specs.Answer.{Answer}
 
 -- an answer, by the contract of `answer`
 pub answer-decided : (a : Answer) (rows : ℕ) (r s : OzpAnswer)

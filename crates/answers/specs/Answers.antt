@@ -2,31 +2,30 @@
 --
 -- In order: the answer of a call; a row's make-whole.
 -- Assumes nothing.
-use Rattle.std.specs.Prelude.{ℕ, ◌-◌, cond, eqb}
+use Rattle.std.specs.Prelude.{ℕ, ◌-◌, cond, eqb, Some, None, Ok, Err}
 use Rattle.std.proofs.Math.Option.{none, some}
 use Rattle.auction.specs.Settlement.{mills}
-use Rattle.pricing.specs.declared.ClearingPrice.{ClearingPrice}
-use Rattle.pricing.specs.declared.ClearingPrice.TheVariants.{Price, NoPrice}
-use Rattle.call.specs.declared.Answer.{Answer}
-use Rattle.call.specs.declared.Answer.TheVariants.{Cleared as Answer-as-Cleared, Refused as Answer-as-Refused}
 use Rattle.plain.specs.Structs.{no_value, no_amount}
 use Rattle.plain.specs.declared.structs.OzpAnswer.{OzpAnswer}
+use Rattle.pricing.specs.Price.{ClearingPrice}
+use Rattle.call.specs.Answer.{Answer}
+use Rattle.values.specs.Refusals.{number_of, place_of}
 
 -- ---- the answer of a call
 
 -- 1 where a clearing has a price, 2 where it has none
 abbrev pub clearing_kind : ClearingPrice → ℕ
-clearing_kind (Price cents) = 1
-clearing_kind NoPrice = 2
+clearing_kind (Some cents) = 1
+clearing_kind None = 2
 
 -- no price is no number of cents
 abbrev pub clearing_cents : ClearingPrice → ℕ
-clearing_cents (Price cents) = cents.0
-clearing_cents NoPrice = no_value
+clearing_cents (Some cents) = cents.0
+clearing_cents None = no_value
 
 -- a clearing of so many rows, priced or not, or a refusal
 abbrev pub exported : Answer → ℕ → OzpAnswer
-exported (Answer-as-Cleared c) rows =
+exported (Ok c) rows =
     record {
       make_whole = c.make_whole;
       daily = c.daily;
@@ -38,7 +37,7 @@ exported (Answer-as-Cleared c) rows =
       number = no_value;
       place = no_value;
     }
-exported (Answer-as-Refused number place) rows =
+exported (Err refusal) rows =
     record {
       make_whole = no_amount;
       daily = no_amount;
@@ -47,8 +46,8 @@ exported (Answer-as-Refused number place) rows =
       total = no_value;
       price = no_value;
       rows = no_value;
-      number = number;
-      place = place;
+      number = number_of refusal;
+      place = place_of refusal;
     }
 
 -- ---- a row's make-whole

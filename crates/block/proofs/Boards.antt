@@ -45,7 +45,7 @@ module _ (f : ℕ → ℕ) (n first before : ℕ) where
       record { sum = omega (arith, running_sum-none f n); total = omega (arith, running_total-none f n, mul-zero first) }
 
   -- a step adds the next value into the running sum, and the running sum into the total
-  pub board-more : (k : ℕ) {x y v x' y' : ℕ} → Board f n first before k x y → v ≡ f (n - suc k)
+  board-more : (k : ℕ) {x y v x' y' : ℕ} → Board f n first before k x y → v ≡ f (n - suc k)
       → x' ≡ (x + v) % 65536 → y' ≡ (y + x') % 65536 → Board f n first before (k + 1) x' y'
   board-more k {x} {y} {v} {x'} {y'} b next e h =
       let r : ℕ = first + running_sum f n (suc k) in
@@ -59,13 +59,21 @@ module _ (f : ℕ → ℕ) (n first before : ℕ) where
         total = total ∙ kept (omega (arith, running_total-more f n k, mul-suc first k));
       })
 
+  -- a step as the code makes it, which counts the places that are left
+  pub board-next : (i : ℕ) {x y v x' y' : ℕ} → 0 < i → i ≤ n → Board f n first before (n - i) x y → v ≡ f (i - 1)
+      → x' ≡ (x + v) % 65536 → y' ≡ (y + x') % 65536 → Board f n first before (n - (i - 1)) x' y'
+  board-next i {x} {y} {v} {x'} {y'} some l b next e h =
+      let place : i - 1 ≡ n - suc (n - i) = omega arith in
+      let more : n - i + 1 ≡ n - (i - 1) = omega arith in
+      rw more at (board-more (n - i) b (next ∙ ap f place) e h)
+
 -- after all steps from nothing
-module _ (f : ℕ → ℕ) (n : ℕ) {k x y : ℕ} (b : Board f n 0 0 k x y) (e : k ≡ n) where
+module _ (f : ℕ → ℕ) (n : ℕ) {i x y : ℕ} (b : Board f n 0 0 (n - i) x y) (e : i ≡ 0) where
   pub board-sum : x ≡ running_sum f n n % 65536
-  board-sum = omega (arith, b.sum, ap (running_sum f n) e)
+  board-sum = let all : n - i ≡ n = omega arith in omega (arith, b.sum, ap (running_sum f n) all)
 
   pub board-total : y ≡ running_total f n n % 65536
-  board-total = omega (arith, b.total, ap (running_total f n) e)
+  board-total = let all : n - i ≡ n = omega arith in omega (arith, b.total, ap (running_total f n) all)
 
 -- values that are kept modulo 65,536 leave both as they are, modulo 65,536
 module _ (f g : ℕ → ℕ) (n : ℕ) (same : (i : ℕ) → i < n → f i ≡ g i % 65536) where

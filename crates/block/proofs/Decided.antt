@@ -1,7 +1,7 @@
 -- The contract of each public function of this crate leaves one answer: any two that it allows for the same bytes coincide,
 -- wherever the parts lie.
 --
--- In order: a byte; numbers and zero bytes of a part; the letters that open it; its sums and its check.
+-- In order: numbers and zero bytes of a part; the letters that open it; its sums and its check.
 -- Assumes nothing.
 use mathlib.Core.Path.{◌≡◌, sym, ap₂, ◌∙◌}
 use mathlib.Core.Bool.{Bool}
@@ -14,7 +14,6 @@ use Rattle.block.specs.Bytes.{u16_at, u32_at, u64_at, opens_with, blank}
 use Rattle.block.specs.Check.{check_holds}
 use Rattle.block.specs.Running.{block_sum, block_total}
 use Rattle.block.specs.declared.running.Running.{Running}
-use Rattle.block.proofs.bytes.wide.Reads as wide
 use Rattle.block.proofs.bytes.u16_at.Reads as u16-at
 use Rattle.block.proofs.bytes.u32_at.Reads as u32-at
 use Rattle.block.proofs.bytes.u64_at.Reads as u64-at
@@ -22,10 +21,6 @@ use Rattle.block.proofs.bytes.opens_with.Reads as opens-with
 use Rattle.block.proofs.bytes.is_blank.Reads as is-blank
 use Rattle.block.proofs.check.check_holds.Reads as check-holds
 use Rattle.block.proofs.check.check_sums.Reads as check-sums
-
--- a wider number, by the contract of `wide`
-pub wide-decided : (x r s : ℕ) → wide.Post tt (x, tt) r (x, tt) → wide.Post tt (x, tt) s (x, tt) → r ≡ s
-wide-decided x r s e f = e.0 ∙ sym f.0
 
 module _ (κs : Lfts 1) (part other : Bor (List ℕ)) (same : part.now ≡ other.now) where
   -- the 16-bit number, by the contract of `u16_at`

@@ -1,6 +1,6 @@
--- The columns of a block put together: what the steps over them and over bytes 11 to 0 leave, and the totals doubled four times.
+-- The columns of a block put together: what the steps over them and over bytes 11 to 0 leave, and sixteen times the totals.
 --
--- In order: a number doubled four times; the sums of the columns as the code keeps them; the running sum and the total of the
+-- In order: sixteen times a number that is kept; the sums of the columns as the code keeps them; the running sum and the total of the
 -- block.
 -- Assumes nothing.
 use mathlib.Core.Path.{◌≡◌, sym, ap, ◌∙◌}
@@ -20,16 +20,9 @@ use Rattle.block.proofs.Steps.{running_sum-all, running_total-all}
 use Rattle.block.proofs.Boards.{kept, kept-added, added-kept, running_sum-kept, running_total-kept}
 use Rattle.block.proofs.Grid.{summed, totalled, first-columns, second-columns}
 
--- a number doubled four times
-pub doubled-four : (a : ℕ) {x x₁ x₂ x₃ x₄ : ℕ} → x ≡ a % 65536
-    → x₁ ≡ (x + x) % 65536 → x₂ ≡ (x₁ + x₁) % 65536 → x₃ ≡ (x₂ + x₂) % 65536 → x₄ ≡ (x₃ + x₃) % 65536
-    → x₄ ≡ 16 * a % 65536
-doubled-four a e e₁ e₂ e₃ e₄ =
-    let once = kept-added a a e e e₁ in
-    let twice = kept-added (a + a) (a + a) once once e₂ in
-    let thrice = kept-added (a + a + (a + a)) (a + a + (a + a)) twice twice e₃ in
-    let b : ℕ = a + a + (a + a) + (a + a + (a + a)) in
-    kept-added b b thrice thrice e₄ ∙ kept (omega arith)
+-- sixteen times a number that is kept
+times-kept : (a : ℕ) {x : ℕ} → x ≡ a % 65536 → x * 16 % 65536 ≡ 16 * a % 65536
+times-kept a e = omega arith
 
 -- a total that went on over twelve places
 went_on : (a b w : ℕ) {x y z : ℕ} → x ≡ a % 65536 → y ≡ b % 65536 → z ≡ (y + x * 12 + w) % 65536
@@ -70,9 +63,9 @@ module _ (s sums before : List ℕ) (e : sums ≡ filled (column_sum s) 16 befor
 
     -- the total, after bytes 11 to 0 and with sixteen times the totals of the columns
     pub total-together : {z t r : ℕ} → z ≡ (y + x * 12 + running_total (byte s) 12 12) % 65536
-        → t ≡ 16 * sum_to (column_total s) 16 % 65536 → r ≡ (z + t) % 65536 → r ≡ block_total s % 65536
+        → t ≡ sum_to (column_total s) 16 % 65536 → r ≡ (z + t * 16 % 65536) % 65536 → r ≡ block_total s % 65536
     total-together h k g =
-        kept-added _ _ (went_on _ _ _ (sum ∙ sum-columns) (total ∙ total-columns) h) k g
+        kept-added _ _ (went_on _ _ _ (sum ∙ sum-columns) (total ∙ total-columns) h) (times-kept _ k) g
         ∙ kept (omega (
           arith,
           second-columns (byte s),

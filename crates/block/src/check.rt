@@ -5,10 +5,10 @@ ghost use Rattle.block.specs.Check.{check_holds};
 
 use crate::bytes::u16_at;
 use crate::columns::{column_sums, over_columns};
-use crate::running::{Running, added, doubled, over_first};
+use crate::running::{Running, over_first};
 
 // Both sums of bytes 0 to 507: over each column, then over the columns, then over the bytes before them. From row to row are
-// sixteen places, so that the columns' totals count sixteen times: they are doubled four times.
+// sixteen places, so that the columns' totals count sixteen times.
 pub fn check_sums(s: &[u8]) -> Running
     requires { 512 ≤ length s.now }
     ensures sum_value { result.sum ≡ block_sum s.now % 65536 }
@@ -17,10 +17,9 @@ pub fn check_sums(s: &[u8]) -> Running
     let mut sums = [0u16; 16];
     let totals = column_sums(s, &mut sums);
     let first = over_first(s, over_columns(&sums));
-    let rows = doubled(doubled(doubled(doubled(totals))));
     Running {
         sum: first.sum,
-        total: added(first.total, rows),
+        total: first.total.wrapping_add(totals.wrapping_mul(16)),
     }
 }
 
@@ -30,5 +29,5 @@ pub fn check_holds(s: &[u8]) -> bool
     ensures { result ≡ check_holds s.now }
 {
     let sums = check_sums(s);
-    sums.sum as u32 == u16_at(s, 508) && sums.total as u32 == u16_at(s, 510)
+    u32::from(sums.sum) == u16_at(s, 508) && u32::from(sums.total) == u16_at(s, 510)
 }

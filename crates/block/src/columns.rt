@@ -6,7 +6,7 @@ ghost use Rattle.laws.specs.Filled.{filled};
 ghost use Rattle.block.specs.Running.{running_sum, running_total};
 ghost use Rattle.block.specs.inner.Columns.{in_column, column_sum, column_total};
 
-use crate::running::{Running, added, step, wide16};
+use crate::running::{Running, step};
 
 // Runs over one column of bytes 28 to 507, from the last of its thirty rows back.
 fn over_rows(s: &[u8], column: usize) -> Running
@@ -15,38 +15,35 @@ fn over_rows(s: &[u8], column: usize) -> Running
     ensures total_value { result.total ≡ running_total (in_column s.now column) 30 30 % 65536 }
 {
     let mut board = Running { sum: 0, total: 0 };
-    let mut at = 508 + column;
-    for passed in 0..30usize {
-        at -= 16;
-        board = step(board, wide16(s[at]));
+    for row in (0..30).rev() {
+        board = step(board, u16::from(s[row * 16 + column + 28]));
     }
     board
 }
 
 // Runs over each column. Stores the columns' sums, each with the byte before its rows, and returns their totals, added up.
-pub fn column_sums(s: &[u8], sums: &mut [u16]) -> u16
-    requires { (512 ≤ length s.now) × (16 ≤ length sums.old) }
+pub fn column_sums(s: &[u8], sums: &mut [u16; 16]) -> u16
+    requires { 512 ≤ length s.now }
     ensures value { result ≡ sum_to (column_total s.now) 16 % 65536 }
     ensures sums_after { sums.new ≡ filled (column_sum s.now) 16 sums.old }
 {
     let mut totals: u16 = 0;
     for column in 0..16 {
         let rows = over_rows(s, column);
-        sums[column] = added(rows.sum, wide16(s[column + 12]));
-        totals = added(totals, rows.total);
+        sums[column] = rows.sum.wrapping_add(u16::from(s[column + 12]));
+        totals = totals.wrapping_add(rows.total);
     }
     totals
 }
 
 // Runs over the sums of the columns, from the last column back.
-pub fn over_columns(sums: &[u16]) -> Running
-    requires { 16 ≤ length sums.now }
+pub fn over_columns(sums: &[u16; 16]) -> Running
     ensures sum_value { result.sum ≡ running_sum (λ i. get_or sums.now i 0) 16 16 % 65536 }
     ensures total_value { result.total ≡ running_total (λ i. get_or sums.now i 0) 16 16 % 65536 }
 {
     let mut board = Running { sum: 0, total: 0 };
-    for i in 0..16 {
-        board = step(board, sums[15 - i]);
+    for i in (0..16).rev() {
+        board = step(board, sums[i]);
     }
     board
 }

@@ -1,5 +1,5 @@
 // Running sums from the last place back, modulo 65,536.
-ghost use Rattle.std.specs.Prelude.{◌≡◌, ◌+◌, ◌*◌, ◌%◌, ◌≤◌, ◌<◌, length};
+ghost use Rattle.std.specs.Prelude.{◌≡◌, ◌+◌, ◌*◌, ◌%◌, ◌≤◌, length};
 ghost use Rattle.block.specs.Bytes.{byte};
 ghost use Rattle.block.specs.Running.{running_sum, running_total};
 
@@ -10,36 +10,15 @@ pub struct Running {
     pub total: u16,
 }
 
-// A byte as a number of 16 bits.
-pub fn wide16(x: u8) -> u16
-    ensures { (result ≡ x) × (result < 256) }
-{
-    x as u16
-}
-
-// Two numbers added, modulo 65,536.
-pub fn added(x: u16, y: u16) -> u16
-    ensures { result ≡ (x + y) % 65536 }
-{
-    ((x as u32 + y as u32) % 65536) as u16
-}
-
-// A number added to itself.
-pub fn doubled(x: u16) -> u16
-    ensures { result ≡ (x + x) % 65536 }
-{
-    added(x, x)
-}
-
 // One step: a value is added into the running sum, and the running sum into the total.
 pub fn step(board: Running, value: u16) -> Running
     ensures sum_value { result.sum ≡ (board.sum + value) % 65536 }
     ensures total_value { result.total ≡ (board.total + result.sum) % 65536 }
 {
-    let sum = added(board.sum, value);
+    let sum = board.sum.wrapping_add(value);
     Running {
         sum,
-        total: added(board.total, sum),
+        total: board.total.wrapping_add(sum),
     }
 }
 
@@ -50,8 +29,8 @@ pub fn over_first(s: &[u8], board: Running) -> Running
     ensures total_value { result.total ≡ (board.total + board.sum * 12 + running_total (byte s.now) 12 12) % 65536 }
 {
     let mut after = board;
-    for i in 0..12 {
-        after = step(after, wide16(s[11 - i]));
+    for i in (0..12).rev() {
+        after = step(after, u16::from(s[i]));
     }
     after
 }

@@ -8,9 +8,8 @@ use mathlib.Core.Bool.{true, false}
 use mathlib.Core.List.{List}
 use Prim.Native.Nat.{ℕ, ◌≤◌, ◌<◌}
 use lib.ListN.{length}
-use Rattle.values.specs.Refusals.{and_then}
+use Rattle.values.specs.Refusals.{and_then, no_fault}
 use Rattle.values.specs.Contents.{Contents, offer_at}
-use Rattle.values.specs.declared.Verdict.TheVariants.{Passed}
 use Rattle.values.proofs.Firsts.{and_then-next, and_then-left, and_then-right}
 use Rattle.limits.specs.Parameters.{missing_fault, range_fault}
 use Rattle.limits.specs.Given.{parameters_fault}
@@ -23,12 +22,12 @@ use Rattle.layout.specs.Read.{contents_of}
 use Rattle.layout.specs.inner.Read.{Inside}
 use Rattle.layout.proofs.Passing.{form-passed-count}
 use Rattle.layout.proofs.Contained.{contents-count}
-use Rattle.book.specs.Faults.{contents_fault, first_fault, given_fault, sound_fault}
+use Rattle.book.specs.Faults.{contents_fault, first_fault, sound_fault}
 use Rattle.book.proofs.Stages.{book_rows, sound-formed, form-inside}
 use Rattle.book.proofs.Unpriced.{rows-unpriced}
 
 -- Contents of at most 600 offers that pass 4 to 8 and 10 can be cleared.
-pub contents-clearable : (c : Contents) → length c.offers ≤ 600 → contents_fault c ≡ Passed → Clearable c
+pub contents-clearable : (c : Contents) → length c.offers ≤ 600 → contents_fault c ≡ no_fault → Clearable c
 unfolding contents_fault parameters_fault
 contents-clearable c few passed =
     let given = and_then-left (parameters_fault c.parameters) _ passed in
@@ -43,19 +42,19 @@ contents-clearable c few passed =
     }
 
 -- a book of good form says at most 600 offers
-form-few : (b : List ℕ) → form_fault b ≡ Passed → length (contents_of b).offers ≤ 600
+form-few : (b : List ℕ) → form_fault b ≡ no_fault → length (contents_of b).offers ≤ 600
 form-few b formed = subst (λ (n : ℕ). n ≤ 600) (contents-count b) (form-passed-count b formed)
 
 -- ---- an accepted book
 
-module _ (b : List ℕ) (accepted : first_fault b ≡ Passed) where
+module _ (b : List ℕ) (accepted : first_fault b ≡ no_fault) where
   -- It passes 1 to 3.
-  pub accepted-form : form_fault b ≡ Passed
+  pub accepted-form : form_fault b ≡ no_fault
   unfolding first_fault
   accepted-form = and_then-left (form_fault b) _ accepted
 
   -- What it says passes 4 to 8 and 10.
-  pub accepted-contents : contents_fault (contents_of b) ≡ Passed
+  pub accepted-contents : contents_fault (contents_of b) ≡ no_fault
   unfolding first_fault
   accepted-contents = and_then-right (form_fault b) _ accepted
 
@@ -69,7 +68,7 @@ module _ (b : List ℕ) (accepted : first_fault b ≡ Passed) where
   accepted-inside = form-inside b accepted-form
 
   -- It is sound.
-  pub accepted-sound : sound_fault b ≡ Passed
+  pub accepted-sound : sound_fault b ≡ no_fault
   unfolding contents_fault parameters_fault
   accepted-sound =
       let p = (contents_of b).parameters in
@@ -81,21 +80,21 @@ module _ (b : List ℕ) (accepted : first_fault b ≡ Passed) where
 
 -- ---- a sound book
 
-module _ (b : List ℕ) (sound : sound_fault b ≡ Passed) where
+module _ (b : List ℕ) (sound : sound_fault b ≡ no_fault) where
   -- It passes 1 to 3.
-  pub sound-form : form_fault b ≡ Passed
+  pub sound-form : form_fault b ≡ no_fault
   unfolding sound_fault
   sound-form = and_then-left (form_fault b) _ sound
 
-  range-then-rows : and_then (range_fault (contents_of b).parameters) (book_rows false b) ≡ Passed
+  range-then-rows : and_then (range_fault (contents_of b).parameters) (book_rows false b) ≡ no_fault
   range-then-rows = sym (sound-formed b sound-form) ∙ sound
 
   -- The parameters that it gives pass 5.
-  pub sound-range : range_fault (contents_of b).parameters ≡ Passed
+  pub sound-range : range_fault (contents_of b).parameters ≡ no_fault
   sound-range = and_then-left (range_fault (contents_of b).parameters) _ range-then-rows
 
   -- Its rows pass 7, 8 and 10 on what they give.
-  pub sound-rows : book_rows false b ≡ Passed
+  pub sound-rows : book_rows false b ≡ no_fault
   sound-rows = and_then-right (range_fault (contents_of b).parameters) _ range-then-rows
 
   -- Each of its offers has the values that it gives within their ranges.

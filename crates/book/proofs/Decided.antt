@@ -7,12 +7,15 @@ use mathlib.Core.List.{List}
 use Prim.Native.Nat.{ℕ}
 use contract.Lifetimes.{Lfts}
 use denote.Ref.{Bor}
-use Rattle.values.specs.declared.Verdict.{Verdict}
 use Rattle.book.specs.Faults.{first_fault, sound_fault}
 use Rattle.book.specs.declared.Opening.{Opening}
 use Rattle.book.proofs.opened.Reads as opened
 use Rattle.book.proofs.verdict.Reads as verdict
 use Rattle.book.proofs.soundness.Reads as soundness
+use Rattle.std.specs.Prelude.{Ok, Err}
+use Rattle.std.specs.declared.result.Result.{Result}
+use Rattle.values.specs.declared.refusal.Refusal.{Refusal}
+use Rattle.values.specs.Refusals.{Verdict, no_fault}
 
 -- the first fault of a book, by the contract of `verdict`
 pub verdict-decided : (κs : Lfts 1) (book other : Bor (List ℕ)) (r s : Verdict)
@@ -30,13 +33,21 @@ pub soundness-decided : (κs : Lfts 1) (book other : Bor (List ℕ)) (r s : Verd
     → r ≡ s
 soundness-decided κs book other r s same e f = e ∙ ap sound_fault same ∙ sym f
 
--- what a book says before its rows, by the contract of `opened`
-pub opened-decided : (κs : Lfts 1) (book : Bor (List ℕ)) (r s : Opening)
+-- what a book says before its rows or the fault of that, by the contract of `opened`
+one_fault : {fault other : Refusal} {v : Verdict} → v ≡ Err fault → v ≡ Err other → fault ≡ other
+one_fault e f = cc
+
+not_both : {fault : Refusal} {v : Verdict} → v ≡ no_fault → v ≡ Err fault → ⊥
+not_both e f = cc
+
+pub opened-decided : (κs : Lfts 1) (book : Bor (List ℕ)) (r s : Result Opening Refusal)
     → opened.Post κs (book, tt) r (book, tt) → opened.Post κs (book, tt) s (book, tt) → r ≡ s
-opened-decided κs book r s e f = λ i.
-    record {
-      fault = (e.fault ∙ sym f.fault) i;
+opened-decided κs book (Ok o) (Ok p) e f = λ i.
+    Ok (record {
       edition = (e.edition ∙ sym f.edition) i;
       parameters = (e.parameters ∙ sym f.parameters) i;
       rows = (e.rows ∙ sym f.rows) i;
-    }
+    })
+opened-decided κs book (Ok o) (Err fault) e f = absurd (not_both e.passed f)
+opened-decided κs book (Err fault) (Ok o) e f = absurd (not_both f.passed e)
+opened-decided κs book (Err fault) (Err other) e f = ap Err (one_fault e f)

@@ -6,10 +6,8 @@ use mathlib.Core.List.{List}
 use Prim.Native.Nat.{ℕ, ◌-◌, ◌<◌}
 use lib.Dec.{eqb}
 use lib.ListN.{length}
-use Rattle.values.specs.Refusals.{and_then}
+use Rattle.values.specs.Refusals.{and_then, Verdict}
 use Rattle.values.specs.Contents.{Contents, offer_at}
-use Rattle.values.specs.declared.Verdict.{Verdict}
-use Rattle.values.specs.declared.head.Parameters.{Parameters}
 use Rattle.values.specs.declared.place.Offer.{Offer}
 use Rattle.values.proofs.Firsts.{first-ext}
 use Rattle.limits.specs.Given.{parameters_fault}

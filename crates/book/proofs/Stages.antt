@@ -3,15 +3,14 @@
 -- In order: the rows of what it says; what comes before them; the form in two steps; a book whose form is refused; what decides
 -- where the form passed; that its rows then lie within it.
 -- Assumes nothing.
-use mathlib.Core.Path.{◌≡◌, refl, sym, ap, ap₂, ◌∙◌}
+use mathlib.Core.Path.{◌≡◌, refl, ap, ap₂, ◌∙◌}
 use mathlib.Core.Bool.{Bool, true, false}
 use mathlib.Core.List.{List}
 use Prim.Native.Nat.{ℕ}
 use lib.ListN.{length}
-use Rattle.values.specs.Refusals.{and_then}
+use Rattle.std.specs.Prelude.{Err, Ok}
+use Rattle.values.specs.Refusals.{and_then, Verdict, no_fault}
 use Rattle.values.specs.Contents.{offer_at}
-use Rattle.values.specs.declared.Verdict.{Verdict}
-use Rattle.values.specs.declared.Verdict.TheVariants.{Passed, Refused}
 use Rattle.values.proofs.Firsts.{and_then-next, and_then-refused, and_then-left, and_then-right}
 use Rattle.limits.specs.Parameters.{range_fault}
 use Rattle.limits.specs.Given.{parameters_fault}
@@ -23,10 +22,11 @@ use Rattle.layout.proofs.Passing.{form-passed-count, form-passed-row}
 use Rattle.layout.proofs.Contained.{contents-count}
 use Rattle.book.specs.Faults.{contents_fault, first_fault, given_fault, sound_fault}
 use Rattle.book.specs.inner.Opening.{before_rows}
+use Rattle.values.specs.declared.refusal.Refusal.{Refusal}
 
 and_then-assoc : (u v w : Verdict) → and_then u (and_then v w) ≡ and_then (and_then u v) w
-and_then-assoc Passed v w = refl
-and_then-assoc (Refused number place) v w = refl
+and_then-assoc (Ok u) v w = refl
+and_then-assoc (Err refusal) v w = refl
 
 -- ---- the rows
 
@@ -50,11 +50,11 @@ unfolding first_fault contents_fault before_rows
 first-before b = and_then-assoc (form_fault b) _ _
 
 -- where it passed, the form did, and the parameters
-pub before-form : (b : List ℕ) → before_rows b ≡ Passed → form_fault b ≡ Passed
+pub before-form : (b : List ℕ) → before_rows b ≡ no_fault → form_fault b ≡ no_fault
 unfolding before_rows
 before-form b e = and_then-left (form_fault b) _ e
 
-pub before-parameters : (b : List ℕ) → before_rows b ≡ Passed → parameters_fault (contents_of b).parameters ≡ Passed
+pub before-parameters : (b : List ℕ) → before_rows b ≡ no_fault → parameters_fault (contents_of b).parameters ≡ no_fault
 unfolding before_rows
 before-parameters b e = and_then-right (form_fault b) _ e
 
@@ -62,40 +62,38 @@ before-parameters b e = and_then-right (form_fault b) _ e
 
 module _ (b : List ℕ) where
   -- the length is refused
-  pub form-length : {number place : ℕ} → length_fault b ≡ Refused number place → form_fault b ≡ Refused number place
+  pub form-length : {refusal : Refusal} → length_fault b ≡ Err refusal → form_fault b ≡ Err refusal
   unfolding form_fault
-  form-length e = and_then-refused (length_fault b) _ _ _ e
+  form-length e = and_then-refused (length_fault b) _ _ e
 
   -- where it passed the blocks decide
-  pub form-blocks : length_fault b ≡ Passed → form_fault b ≡ and_then (check_fault b) (layout_fault b)
+  pub form-blocks : length_fault b ≡ no_fault → form_fault b ≡ and_then (check_fault b) (layout_fault b)
   unfolding form_fault
   form-blocks e = and_then-next (length_fault b) _ e
 
--- where the length passed, what the blocks and the parameters were told to be decides
-pub before-told : (b : List ℕ) → length_fault b ≡ Passed → (blocks tested v : Verdict)
-    → blocks ≡ and_then (check_fault b) (layout_fault b) → tested ≡ parameters_fault (contents_of b).parameters → v ≡ and_then blocks tested
-    → v ≡ before_rows b
-unfolding before_rows
-before-told b length blocks tested v e f g = g ∙ ap₂ and_then (e ∙ sym (form-blocks b length)) f
-
 -- ---- the form is refused
 
-module _ (b : List ℕ) {number place : ℕ} (refused : form_fault b ≡ Refused number place) where
-  before-form-refused : before_rows b ≡ Refused number place
+module _ (b : List ℕ) {refusal : Refusal} (refused : form_fault b ≡ Err refusal) where
+  pub before-form-refused : before_rows b ≡ Err refusal
   unfolding before_rows
-  before-form-refused = and_then-refused (form_fault b) _ number place refused
+  before-form-refused = and_then-refused (form_fault b) _ refusal refused
 
-  pub sound-form-refused : sound_fault b ≡ Refused number place
+  pub sound-form-refused : sound_fault b ≡ Err refusal
   unfolding sound_fault
-  sound-form-refused = and_then-refused (form_fault b) _ number place refused
+  sound-form-refused = and_then-refused (form_fault b) _ refusal refused
 
 -- so it is where the length is
-pub before-length : (b : List ℕ) {number place : ℕ} → length_fault b ≡ Refused number place → before_rows b ≡ Refused number place
+pub before-length : (b : List ℕ) {refusal : Refusal} → length_fault b ≡ Err refusal → before_rows b ≡ Err refusal
 before-length b e = before-form-refused b (form-length b e)
 
 -- ---- the form passed
 
-module _ (b : List ℕ) (formed : form_fault b ≡ Passed) where
+module _ (b : List ℕ) (formed : form_fault b ≡ no_fault) where
+  -- before the rows the parameters decide
+  pub before-formed : before_rows b ≡ parameters_fault (contents_of b).parameters
+  unfolding before_rows
+  before-formed = and_then-next (form_fault b) _ formed
+
   -- of soundness 5 decides, and then the rows
   pub sound-formed : sound_fault b ≡ and_then (range_fault (contents_of b).parameters) (book_rows false b)
   unfolding sound_fault given_fault

@@ -1,9 +1,8 @@
 -- The refusals of a book in their stated order, and soundness.
 -- Assumes nothing.
 use Rattle.std.specs.Prelude.{ℕ, true, false, List, length}
-use Rattle.values.specs.Refusals.{and_then}
+use Rattle.values.specs.Refusals.{and_then, Verdict}
 use Rattle.values.specs.Contents.{Contents, offer_at}
-use Rattle.values.specs.declared.Verdict.{Verdict}
 use Rattle.layout.specs.Read.{contents_of}
 use Rattle.layout.specs.Form.{form_fault}
 use Rattle.limits.specs.Parameters.{range_fault}

@@ -15,5 +15,5 @@ fn leap(year: u64) -> bool
 pub fn days_of(year: u32) -> u64
     ensures { (result ≡ days_of year) × (result ≤ 366) }
 {
-    if leap(year as u64 + 1) { 366 } else { 365 }
+    if leap(u64::from(year) + 1) { 366 } else { 365 }
 }

@@ -4,11 +4,12 @@
 -- Assumes nothing.
 use mathlib.Core.Path.{◌≡◌, ap, sym, fun_ext, ◌∙◌}
 use mathlib.Core.List.{List}
-use Prim.Native.Nat.{ℕ, ◌<◌}
+use Prim.Native.Nat.{ℕ}
 use lib.ListN.{length, get_or-eq_default}
 use native.Mathlib.Omega.{arith}
 use contract.Lifetimes.{Lfts}
 use denote.Ref.{Bor, MutBor}
+use Rattle.std.specs.Prelude.{Ok}
 use Rattle.laws.proofs.Cases.{by_order}
 use Rattle.values.specs.Values.{held}
 use Rattle.values.specs.declared.place.Offer.{Offer}
@@ -20,7 +21,6 @@ use Rattle.call.specs.Answer.{Outcome}
 use Rattle.call.specs.Demands.{SameOffer, SameButBlocks, ClearAlike}
 use Rattle.sale.specs.Payment.{clearing_of}
 use Rattle.sale.specs.declared.Clearing.{Clearing}
-use Rattle.call.specs.declared.Answer.TheVariants.{Cleared as Answer-as-Cleared}
 use Rattle.call.proofs.Decided.{Called, call-outcome}
 use Rattle.call.proofs.Outcomes.{cleared-clearing, cleared-row}
 
@@ -61,20 +61,20 @@ module _ (c c' : Contents) (s : SameButBlocks c c') where
 
 -- DEMAND 3. Two accepted books that differ in minimum blocks alone clear the same, at the same price.
 module _ (κs κs' : Lfts 3) (book : Bor (List ℕ)) (cleared₀ committed₀ cleared₁ committed₁ : MutBor (List ℕ)) (k : Clearing)
-    (called : Called κs book cleared₀ committed₀ cleared₁ committed₁ (Answer-as-Cleared k))
+    (called : Called κs book cleared₀ committed₀ cleared₁ committed₁ (Ok k))
     (book' : Bor (List ℕ)) (cleared₀' committed₀' cleared₁' committed₁' : MutBor (List ℕ)) (k' : Clearing)
-    (called' : Called κs' book' cleared₀' committed₀' cleared₁' committed₁' (Answer-as-Cleared k')) where
+    (called' : Called κs' book' cleared₀' committed₀' cleared₁' committed₁' (Ok k')) where
   abbrev b : List ℕ
   b = book.now
 
   abbrev b' : List ℕ
   b' = book'.now
 
-  out : Outcome b cleared₀.now committed₀.now (Answer-as-Cleared k) cleared₁.now committed₁.now
-  out = call-outcome κs book cleared₀ committed₀ cleared₁ committed₁ (Answer-as-Cleared k) called
+  out : Outcome b cleared₀.now committed₀.now (Ok k) cleared₁.now committed₁.now
+  out = call-outcome κs book cleared₀ committed₀ cleared₁ committed₁ (Ok k) called
 
-  out' : Outcome b' cleared₀'.now committed₀'.now (Answer-as-Cleared k') cleared₁'.now committed₁'.now
-  out' = call-outcome κs' book' cleared₀' committed₀' cleared₁' committed₁' (Answer-as-Cleared k') called'
+  out' : Outcome b' cleared₀'.now committed₀'.now (Ok k') cleared₁'.now committed₁'.now
+  out' = call-outcome κs' book' cleared₀' committed₀' cleared₁' committed₁' (Ok k') called'
 
   pub call-blocks : SameButBlocks (contents_of b) (contents_of b') → ClearAlike k k' cleared₁.now cleared₁'.now (length (contents_of b).offers)
   unfolding clearing_of

@@ -11,10 +11,9 @@ use native.Mathlib.Omega.{arith}
 use lib.Dec.{leb}
 use lib.ListN.{length}
 use borrow.Author.Tests.{le-leb, leb-true}
-use Rattle.values.specs.Refusals.{unless, and_then, short_buffer, buffer_by}
+use Rattle.std.specs.Prelude.{Err, Ok}
+use Rattle.values.specs.Refusals.{unless, and_then, short_buffer, buffer_by, Verdict, no_fault}
 use Rattle.values.specs.Contents.{offer_at}
-use Rattle.values.specs.declared.Verdict.{Verdict}
-use Rattle.values.specs.declared.Verdict.TheVariants.{Passed, Refused}
 use Rattle.values.specs.declared.place.Offer.{Offer}
 use Rattle.values.specs.declared.head.Parameters.{Parameters}
 use Rattle.values.proofs.Firsts.{and_then-next, and_then-refused, and_then-left, and_then-right, unless-true, unless-passed}
@@ -33,9 +32,9 @@ use Rattle.book.proofs.Accepted.{accepted-clearable}
 use Rattle.sale.specs.inner.Sale.{Stands, ClearedAs}
 use Rattle.sale.specs.Payment.{clearing_of, cleared_list, committed_list}
 use Rattle.sale.specs.declared.Clearing.{Clearing}
-use Rattle.call.specs.Answer.{Outcome, answer_of, answer_by, buffer_fault, call_fault}
-use Rattle.call.specs.declared.Answer.{Answer}
-use Rattle.call.specs.declared.Answer.TheVariants.{Cleared as Answer-as-Cleared, Refused as Answer-as-Refused}
+use Rattle.call.specs.Answer.{Outcome, answer_of, answer_by, buffer_fault, call_fault, Answer}
+use Rattle.values.specs.declared.refusal.Refusal.{Refusal}
+use Rattle.values.specs.declared.refusal.Refusal.TheVariants.{ShortBuffer}
 
 -- ---- an edition, parameters and a number of rows that passed
 
@@ -53,20 +52,30 @@ module _ (b : List ℕ) (edition : ℕ) (p : Parameters) (n : ℕ) (o : Opened b
   opened-offers = ap₂ (λ (e m : ℕ). row_offers b e 1 m) opened-edition opened-count ∙ contents-offers b
 
   -- the rows decide, and then the buffers
-  pub fault-rows : (cleared committed : ℕ) (found short v : Verdict)
+  fault-rows : (cleared committed : ℕ) {found short : Verdict}
       → found ≡ rows_fault true edition (offer_at (row_offers b edition 1 n)) (length (row_offers b edition 1 n))
-      → short ≡ buffer_fault n cleared committed → v ≡ and_then found short → v ≡ call_fault b cleared committed
+      → short ≡ buffer_fault n cleared committed → and_then found short ≡ call_fault b cleared committed
   unfolding call_fault
-  fault-rows cleared committed found short v f g h =
-      h
-      ∙ ap₂ and_then
+  fault-rows cleared committed f g =
+      ap₂ and_then
       (f
       ∙ ap₂ (λ (e : ℕ) (offers : List Offer). rows_fault true e (offer_at offers) (length offers)) o.edition opened-offers
       ∙ sym (first-before b ∙ and_then-next (before_rows b) _ o.passed))
       (g ∙ ap (λ m. buffer_fault m cleared committed) o.rows)
 
+  -- so a row is refused, or a buffer past rows that pass, or neither
+  pub rows-refused : (cleared committed : ℕ) (refusal : Refusal)
+      → Err refusal ≡ rows_fault true edition (offer_at (row_offers b edition 1 n)) (length (row_offers b edition 1 n))
+      → Err refusal ≡ call_fault b cleared committed
+  rows-refused cleared committed refusal e = fault-rows cleared committed e refl
+
+  pub buffers-decide : (cleared committed : ℕ) (short : Verdict)
+      → no_fault ≡ rows_fault true edition (offer_at (row_offers b edition 1 n)) (length (row_offers b edition 1 n))
+      → short ≡ buffer_fault n cleared committed → short ≡ call_fault b cleared committed
+  buffers-decide cleared committed short e f = fault-rows cleared committed e f
+
   -- the rows of an accepted book stand in the columns as what it says
-  pub opened-stands : (before after : Columns) (found : Verdict) → first_fault b ≡ Passed → Blank n before
+  pub opened-stands : (before after : Columns) (found : Verdict) → first_fault b ≡ no_fault → Blank n before
       → RowsRead edition (row_offers b edition 1 n) found before after → Stands (contents_of b) p n after
   opened-stands before after found accepted blank read =
       record {
@@ -82,16 +91,14 @@ module _ (b : List ℕ) (edition : ℕ) (p : Parameters) (n : ℕ) (o : Opened b
 
 module _ (b : List ℕ) (cleared committed : ℕ) where
   -- where what comes before the rows is refused, the call is
-  pub fault-before : (v : Verdict) (number place : ℕ) → v ≡ before_rows b → v ≡ Refused number place
-      → Refused number place ≡ call_fault b cleared committed
+  pub fault-before : (refusal : Refusal) → before_rows b ≡ Err refusal → Err refusal ≡ call_fault b cleared committed
   unfolding call_fault
-  fault-before v number place e f =
-      sym (and_then-refused (first_fault b) _ number place
-      (first-before b ∙ and_then-refused (before_rows b) _ number place (sym e ∙ f)))
+  fault-before refusal e =
+      sym (and_then-refused (first_fault b) _ refusal (first-before b ∙ and_then-refused (before_rows b) _ refusal e))
 
   -- buffers that are long enough
   pub long-enough : length (contents_of b).offers ≤ cleared → length (contents_of b).offers ≤ committed
-      → buffer_fault (length (contents_of b).offers) cleared committed ≡ Passed
+      → buffer_fault (length (contents_of b).offers) cleared committed ≡ no_fault
   unfolding buffer_fault
   long-enough h k =
       let n = length (contents_of b).offers in
@@ -102,21 +109,21 @@ module _ (b : List ℕ) (cleared committed : ℕ) where
   -- with buffers of 600 entries it is the book's own
   fault-by : (v : Verdict) → first_fault b ≡ v → 600 ≤ cleared → 600 ≤ committed → call_fault b cleared committed ≡ v
   unfolding call_fault
-  fault-by Passed e h k =
+  fault-by (Ok u) e h k =
       let few = (accepted-clearable b e).few in
       and_then-next (first_fault b) _ e ∙ long-enough (omega (arith, few)) (omega (arith, few))
-  fault-by (Refused number place) e h k = and_then-refused (first_fault b) _ number place e
+  fault-by (Err refusal) e h k = and_then-refused (first_fault b) _ refusal e
 
   pub fault-first : 600 ≤ cleared → 600 ≤ committed → call_fault b cleared committed ≡ first_fault b
   fault-first h k = fault-by (first_fault b) refl h k
 
 -- a call with no fault: the book is accepted, and both buffers are long enough
 pub record Callable (b : List ℕ) (cleared committed : ℕ) : Type 0 where
-  pub accepted : first_fault b ≡ Passed
+  pub accepted : first_fault b ≡ no_fault
   pub cleared-long : length (contents_of b).offers ≤ cleared
   pub committed-long : length (contents_of b).offers ≤ committed
 
-pub passed-callable : (b : List ℕ) (cleared committed : ℕ) → call_fault b cleared committed ≡ Passed → Callable b cleared committed
+pub passed-callable : (b : List ℕ) (cleared committed : ℕ) → call_fault b cleared committed ≡ no_fault → Callable b cleared committed
 unfolding call_fault buffer_fault
 passed-callable b cleared committed e =
     let n = length (contents_of b).offers in
@@ -124,16 +131,16 @@ passed-callable b cleared committed e =
     let first = unless (leb n cleared) (short_buffer 1) in
     record {
       accepted = and_then-left (first_fault b) _ e;
-      cleared-long = leb-true n cleared (unless-passed (leb n cleared) 9 1 (and_then-left first _ buffers));
-      committed-long = leb-true n committed (unless-passed (leb n committed) 9 2 (and_then-right first _ buffers));
+      cleared-long = leb-true n cleared (unless-passed (leb n cleared) (ShortBuffer 1) (and_then-left first _ buffers));
+      committed-long = leb-true n committed (unless-passed (leb n committed) (ShortBuffer 2) (and_then-right first _ buffers));
     }
 
 -- ---- outcomes
 
-pub outcome-refused : (b cleared committed : List ℕ) (number place : ℕ)
-    → Refused number place ≡ call_fault b (length cleared) (length committed)
-    → Outcome b cleared committed (Answer-as-Refused number place) cleared committed
-outcome-refused b cleared committed number place e =
+pub outcome-refused : (b cleared committed : List ℕ) (refusal : Refusal)
+    → Err refusal ≡ call_fault b (length cleared) (length committed)
+    → Outcome b cleared committed (Err refusal) cleared committed
+outcome-refused b cleared committed refusal e =
     record {
       answered = ap (λ w. answer_by w (clearing_of (contents_of b))) e;
       cleared-holds = ap (λ w. buffer_by w cleared (cleared_list (contents_of b) cleared)) e;
@@ -141,21 +148,21 @@ outcome-refused b cleared committed number place e =
     }
 
 pub outcome-cleared : (b cleared committed : List ℕ) (c : Clearing) (cleared' committed' : List ℕ)
-    → Passed ≡ call_fault b (length cleared) (length committed)
+    → no_fault ≡ call_fault b (length cleared) (length committed)
     → ClearedAs (contents_of b) cleared committed c cleared' committed'
-    → Outcome b cleared committed (Answer-as-Cleared c) cleared' committed'
+    → Outcome b cleared committed (Ok c) cleared' committed'
 outcome-cleared b cleared committed c cleared' committed' g s =
     record {
-      answered = ap Answer-as-Cleared s.clearing ∙ ap (λ w. answer_by w (clearing_of (contents_of b))) g;
+      answered = ap Ok s.clearing ∙ ap (λ w. answer_by w (clearing_of (contents_of b))) g;
       cleared-holds = s.cleared-holds ∙ ap (λ w. buffer_by w cleared (cleared_list (contents_of b) cleared)) g;
       committed-holds = s.committed-holds ∙ ap (λ w. buffer_by w committed (committed_list (contents_of b) committed)) g;
     }
 
 -- where what comes before the rows is refused, the answer with no buffers is that refusal
-pub answer-before : (b : List ℕ) (number place : ℕ) → before_rows b ≡ Refused number place
-    → Answer-as-Refused number place ≡ answer_of b
-answer-before b number place e =
-    sym (ap (λ w. answer_by w (clearing_of (contents_of b))) (first-before b ∙ and_then-refused (before_rows b) _ number place e))
+pub answer-before : (b : List ℕ) (refusal : Refusal) → before_rows b ≡ Err refusal
+    → Err refusal ≡ answer_of b
+answer-before b refusal e =
+    sym (ap (λ w. answer_by w (clearing_of (contents_of b))) (first-before b ∙ and_then-refused (before_rows b) _ refusal e))
 
 -- the answer into buffers of 600 entries is the answer with none
 pub outcome-answer : (b cleared committed : List ℕ) (a : Answer) (cleared' committed' : List ℕ)

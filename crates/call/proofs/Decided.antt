@@ -9,8 +9,7 @@ use mathlib.Core.List.{List}
 use Prim.Native.Nat.{ℕ}
 use contract.Lifetimes.{Lfts}
 use denote.Ref.{Bor, MutBor}
-use Rattle.call.specs.Answer.{Outcome, answer_of}
-use Rattle.call.specs.declared.Answer.{Answer}
+use Rattle.call.specs.Answer.{Outcome, answer_of, Answer}
 use Rattle.call.proofs.clear.Reads as clear
 use Rattle.call.proofs.quote.Reads as quote
 

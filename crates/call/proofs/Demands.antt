@@ -10,6 +10,7 @@ use Prim.Native.Nat.{ℕ, ◌<◌}
 use lib.ListN.{get_or}
 use contract.Lifetimes.{Lfts}
 use denote.Ref.{Bor, MutBor}
+use Rattle.std.specs.Prelude.{Ok}
 use Rattle.laws.proofs.Sums.{sum_to-ext}
 use Rattle.auction.specs.Offers.{Offers, Demand}
 use Rattle.auction.specs.Clearing.{cleared_total, clearing_price}
@@ -25,7 +26,6 @@ use Rattle.sale.specs.Auction.{offers_of, demand, total, price, row_cleared}
 use Rattle.call.specs.Answer.{Outcome}
 use Rattle.sale.specs.Payment.{clearing_of}
 use Rattle.sale.specs.declared.Clearing.{Clearing}
-use Rattle.call.specs.declared.Answer.TheVariants.{Cleared as Answer-as-Cleared}
 use Rattle.book.proofs.Accepted.{accepted-clearable}
 use Rattle.sale.proofs.Ground.{clearable-falls, clearable-proper}
 use Rattle.values.specs.Contents.{Contents}
@@ -45,12 +45,12 @@ by_price-agree d o x y e h =
     }
 
 module _ (κs : Lfts 3) (book : Bor (List ℕ)) (cleared₀ committed₀ cleared₁ committed₁ : MutBor (List ℕ)) (k : Clearing)
-    (called : Called κs book cleared₀ committed₀ cleared₁ committed₁ (Answer-as-Cleared k)) where
+    (called : Called κs book cleared₀ committed₀ cleared₁ committed₁ (Ok k)) where
   abbrev b : List ℕ
   b = book.now
 
-  out : Outcome b cleared₀.now committed₀.now (Answer-as-Cleared k) cleared₁.now committed₁.now
-  out = call-outcome κs book cleared₀ committed₀ cleared₁ committed₁ (Answer-as-Cleared k) called
+  out : Outcome b cleared₀.now committed₀.now (Ok k) cleared₁.now committed₁.now
+  out = call-outcome κs book cleared₀ committed₀ cleared₁ committed₁ (Ok k) called
 
   -- what the book says, the curve that its parameters select, and its offers
   abbrev said : Contents

@@ -7,6 +7,7 @@ use mathlib.Core.List.{List}
 use Prim.Native.Nat.{ℕ, ◌+◌, ◌≤◌}
 use contract.Lifetimes.{Lfts}
 use denote.Ref.{Bor, MutBor}
+use Rattle.std.specs.Prelude.{Ok}
 use Rattle.values.specs.Values.{held}
 use Rattle.values.specs.declared.Value.TheVariants.{Given, Missing}
 use Rattle.values.specs.declared.head.Parameters.{Parameters}
@@ -20,12 +21,11 @@ use Rattle.region.specs.Region.{terms_of}
 use Rattle.region.proofs.Regions.{region-2022, region-2026}
 use Rattle.sale.specs.Auction.{demand}
 use Rattle.sale.specs.declared.Clearing.{Clearing}
-use Rattle.call.specs.declared.Answer.TheVariants.{Cleared as Answer-as-Cleared}
 use Rattle.call.proofs.Decided.{Called, call-outcome}
 use Rattle.call.proofs.Outcomes.{cleared-accepted}
 
 module _ (κs : Lfts 3) (book : Bor (List ℕ)) (cleared₀ committed₀ cleared₁ committed₁ : MutBor (List ℕ)) (k : Clearing)
-    (called : Called κs book cleared₀ committed₀ cleared₁ committed₁ (Answer-as-Cleared k)) where
+    (called : Called κs book cleared₀ committed₀ cleared₁ committed₁ (Ok k)) where
   -- the book's parameters
   abbrev p : Parameters
   p = (contents_of book.now).parameters
@@ -34,7 +34,7 @@ module _ (κs : Lfts 3) (book : Bor (List ℕ)) (cleared₀ committed₀ cleared
   ranged =
       (accepted-clearable book.now
       (cleared-accepted book.now cleared₀.now committed₀.now k cleared₁.now committed₁.now
-      (call-outcome κs book cleared₀ committed₀ cleared₁ committed₁ (Answer-as-Cleared k) called))
+      (call-outcome κs book cleared₀ committed₀ cleared₁ committed₁ (Ok k) called))
       ).parameters
 
   -- Up to 2025 the demands are read with the curve of 2022, by the margin that the book gives.

@@ -8,10 +8,8 @@ use Prim.Native.Nat.{ℕ}
 use lib.ListN.{length}
 use contract.Lifetimes.{Lfts}
 use denote.Ref.{Bor, MutBor}
-use Rattle.values.specs.Refusals.{and_then, buffer_by}
+use Rattle.values.specs.Refusals.{and_then, buffer_by, Verdict, no_fault}
 use Rattle.values.specs.Contents.{Contents}
-use Rattle.values.specs.declared.Verdict.{Verdict}
-use Rattle.values.specs.declared.Verdict.TheVariants.{Passed}
 use Rattle.values.specs.declared.place.Offer.{Offer}
 use Rattle.values.proofs.Firsts.{and_then-next}
 use Rattle.layout.specs.Form.{form_fault}
@@ -20,9 +18,8 @@ use Rattle.book.specs.Faults.{contents_fault, first_fault}
 use Rattle.book.proofs.Editions.{contents-any-edition}
 use Rattle.sale.specs.Auction.{total, price, row_cleared, row_committed, row_make_whole, all_make_whole, daily_total, year_total}
 use Rattle.sale.specs.Payment.{clearing_of, cleared_list, committed_list}
-use Rattle.call.specs.Answer.{Outcome, answer_by, buffer_fault, call_fault}
+use Rattle.call.specs.Answer.{Outcome, answer_by, buffer_fault, call_fault, Answer}
 use Rattle.call.specs.Steps.{SameButEdition}
-use Rattle.call.specs.declared.Answer.{Answer}
 use Rattle.call.proofs.Decided.{Called, call-outcome, outcome-same}
 
 module _ (c c' : Contents) (s : SameButEdition c c') where
@@ -45,7 +42,7 @@ module _ (c c' : Contents) (s : SameButEdition c c') where
 
 -- ---- two books of good form that say such contents
 
-module _ (b b' : List ℕ) (formed : form_fault b ≡ Passed) (formed' : form_fault b' ≡ Passed)
+module _ (b b' : List ℕ) (formed : form_fault b ≡ no_fault) (formed' : form_fault b' ≡ no_fault)
     (s : SameButEdition (contents_of b) (contents_of b')) where
   first-same : first_fault b ≡ first_fault b'
   unfolding first_fault
@@ -77,7 +74,7 @@ module _ (b b' : List ℕ) (formed : form_fault b ≡ Passed) (formed' : form_fa
 -- the same answer and leave the same in both buffers.
 pub editions-answer-the-same : (κs κs' : Lfts 3) (book book' : Bor (List ℕ)) (cleared committed cleared₀ committed₀ : MutBor (List ℕ))
     (cleared₁ committed₁ cleared₂ committed₂ : MutBor (List ℕ)) (a a' : Answer)
-    → form_fault book.now ≡ Passed → form_fault book'.now ≡ Passed → SameButEdition (contents_of book.now) (contents_of book'.now)
+    → form_fault book.now ≡ no_fault → form_fault book'.now ≡ no_fault → SameButEdition (contents_of book.now) (contents_of book'.now)
     → cleared.now ≡ cleared₀.now → committed.now ≡ committed₀.now
     → Called κs book cleared committed cleared₁ committed₁ a → Called κs' book' cleared₀ committed₀ cleared₂ committed₂ a'
     → (a ≡ a') × (cleared₁.now ≡ cleared₂.now) × (committed₁.now ≡ committed₂.now)

@@ -11,6 +11,7 @@ use Prim.Native.Nat.{ℕ, ◌*◌}
 use native.Mathlib.Nat.{mul-zero}
 use native.Mathlib.Omega.{arith}
 use lib.ListN.{length}
+use Rattle.std.specs.Prelude.{Ok}
 use Rattle.laws.specs.Sum.{sum_to, sum_where}
 use Rattle.laws.specs.Filled.{filled}
 use Rattle.laws.proofs.Sums.{sum_to-none}
@@ -20,7 +21,6 @@ use Rattle.auction.proofs.Total.{total-is-largest}
 use Rattle.auction.proofs.Price.{price-none}
 use Rattle.calendar.specs.Year.{days_of}
 use Rattle.values.specs.Contents.{Contents, offer_at}
-use Rattle.values.specs.declared.Verdict.TheVariants.{Passed}
 use Rattle.values.specs.declared.head.Parameters.{Parameters}
 use Rattle.values.proofs.Firsts.{and_then-next, first-zero}
 use Rattle.limits.specs.Offers.{rows_fault}
@@ -34,9 +34,9 @@ use Rattle.sale.specs.Payment.{clearing_of, cleared_list, committed_list}
 use Rattle.call.specs.Answer.{Outcome, call_fault}
 use Rattle.call.specs.inner.None.{none_cleared}
 use Rattle.sale.specs.declared.Clearing.{Clearing}
-use Rattle.call.specs.declared.Answer.TheVariants.{Cleared as Answer-as-Cleared}
 use Rattle.sale.specs.inner.Sale.{ClearedAs}
 use Rattle.call.proofs.Calls.{long-enough, outcome-cleared}
+use Rattle.values.specs.Refusals.{no_fault}
 
 module _ (c : Contents) (e : price c ≡ none) where
   pub make-whole-none : all_make_whole c ≡ 0
@@ -88,7 +88,7 @@ module _ (c : Contents) (empty : length c.offers ≡ 0) where
 
 -- a book of no rows whose parameters passed has no fault, whatever the buffers
 fault-empty : (b : List ℕ) (edition : ℕ) (p : Parameters) (n cleared committed : ℕ) → Opened b edition p n → n ≡ 0
-    → Passed ≡ call_fault b cleared committed
+    → no_fault ≡ call_fault b cleared committed
 unfolding call_fault rows_fault
 fault-empty b edition p n cleared committed o z =
     let empty : length (contents_of b).offers ≡ 0 = sym o.rows ∙ z in
@@ -100,9 +100,9 @@ fault-empty b edition p n cleared committed o z =
 -- the outcome of a call on such a book
 pub outcome-empty : (b cleared committed : List ℕ) (edition : ℕ) (p : Parameters) (n : ℕ) (k : Clearing) → Opened b edition p n → n ≡ 0
     → k ≡ none_cleared
-    → Outcome b cleared committed (Answer-as-Cleared k) cleared committed
+    → Outcome b cleared committed (Ok k) cleared committed
 outcome-empty b cleared committed edition p n k o z e =
-    subst (λ (r : Clearing). Outcome b cleared committed (Answer-as-Cleared r) cleared committed) (sym e)
+    subst (λ (r : Clearing). Outcome b cleared committed (Ok r) cleared committed) (sym e)
     (outcome-cleared b cleared committed none_cleared cleared committed
     (fault-empty b edition p n (length cleared) (length committed) o z)
     (cleared-empty (contents_of b) (sym o.rows ∙ z) cleared committed))

@@ -1,3 +1,4 @@
+mod Ready
 pub mod Calls
 pub mod Empty
 pub mod Outcomes

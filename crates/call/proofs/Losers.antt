@@ -10,20 +10,19 @@ use Prim.Native.Nat.{ℕ}
 use borrow.Author.Tests.{lt-leb}
 use contract.Lifetimes.{Lfts}
 use denote.Ref.{Bor, MutBor}
+use Rattle.std.specs.Prelude.{Some, Ok}
 use Rattle.laws.proofs.Those.{those-inserted}
 use Rattle.values.specs.Contents.{Contents}
 use Rattle.values.specs.declared.place.Offer.{Offer}
 use Rattle.units.specs.declared.CentsPerMwDay.{CentsPerMwDay}
 use Rattle.limits.specs.Clearable.{Clearable}
 use Rattle.pricing.specs.Price.{as_price}
-use Rattle.pricing.specs.declared.ClearingPrice.TheVariants.{Price}
 use Rattle.layout.specs.Read.{contents_of}
 use Rattle.book.proofs.Accepted.{accepted-clearable}
 use Rattle.sale.specs.Auction.{price}
 use Rattle.sale.specs.Payment.{clearing_of}
 use Rattle.sale.specs.declared.Clearing.{Clearing}
 use Rattle.call.specs.Losers.{to_price, at_or_below, SameToPrice, SameSale, OneLoser}
-use Rattle.call.specs.declared.Answer.TheVariants.{Cleared as Answer-as-Cleared}
 use Rattle.call.proofs.Decided.{Called, call-outcome}
 use Rattle.call.proofs.OneMore.{quoted-there}
 use Rattle.call.proofs.Outcomes.{cleared-accepted, cleared-clearing, cleared-row, committed-row}
@@ -36,10 +35,10 @@ pub record Sells (b : List ℕ) (k : Clearing) (cleared committed : List ℕ) : 
   pub holds : Holds (contents_of b) cleared committed
 
 pub call-sells : (κs : Lfts 3) (book : Bor (List ℕ)) (cleared₀ committed₀ cleared₁ committed₁ : MutBor (List ℕ)) (k : Clearing)
-    → Called κs book cleared₀ committed₀ cleared₁ committed₁ (Answer-as-Cleared k)
+    → Called κs book cleared₀ committed₀ cleared₁ committed₁ (Ok k)
     → Sells book.now k cleared₁.now committed₁.now
 call-sells κs book cleared₀ committed₀ cleared₁ committed₁ k called =
-    let out = call-outcome κs book cleared₀ committed₀ cleared₁ committed₁ (Answer-as-Cleared k) called in
+    let out = call-outcome κs book cleared₀ committed₀ cleared₁ committed₁ (Ok k) called in
     record {
       clearable = accepted-clearable book.now (cleared-accepted book.now cleared₀.now committed₀.now k cleared₁.now committed₁.now out);
       clearing = cleared-clearing book.now cleared₀.now committed₀.now k cleared₁.now committed₁.now out;
@@ -51,12 +50,12 @@ call-sells κs book cleared₀ committed₀ cleared₁ committed₁ k called =
     }
 
 -- the price that a clearing quotes is the clearing price of the book
-price-there : (c : Contents) (k : Clearing) (p : CentsPerMwDay) → k ≡ clearing_of c → k.price ≡ Price p → price c ≡ some p.0
+price-there : (c : Contents) (k : Clearing) (p : CentsPerMwDay) → k ≡ clearing_of c → k.price ≡ Some p → price c ≡ some p.0
 unfolding clearing_of
 price-there c k p e q = quoted-there (price c) p (sym q ∙ ap (λ (r : Clearing). r.price) e)
 
 same-sale : (b b' : List ℕ) (k k' : Clearing) (v w v' w' : List ℕ) → Sells b k v w → Sells b' k' v' w'
-    → (p : CentsPerMwDay) → k.price ≡ Price p → SameToPrice p.0 (contents_of b) (contents_of b')
+    → (p : CentsPerMwDay) → k.price ≡ Some p → SameToPrice p.0 (contents_of b) (contents_of b')
     → SameSale p.0 (contents_of b) (contents_of b') k k' v w v' w'
 unfolding clearing_of
 same-sale b b' k k' v w v' w' x y p e s =
@@ -93,10 +92,10 @@ back p c c' s = record { parameters = sym s.parameters; offers = sym s.offers }
 
 -- Two calls that cleared, the first at the price p.
 module _ (κs κs' : Lfts 3) (book : Bor (List ℕ)) (cleared₀ committed₀ cleared₁ committed₁ : MutBor (List ℕ)) (k : Clearing)
-    (called : Called κs book cleared₀ committed₀ cleared₁ committed₁ (Answer-as-Cleared k))
+    (called : Called κs book cleared₀ committed₀ cleared₁ committed₁ (Ok k))
     (book' : Bor (List ℕ)) (cleared₀' committed₀' cleared₁' committed₁' : MutBor (List ℕ)) (k' : Clearing)
-    (called' : Called κs' book' cleared₀' committed₀' cleared₁' committed₁' (Answer-as-Cleared k'))
-    (p : CentsPerMwDay) (priced : k.price ≡ Price p) where
+    (called' : Called κs' book' cleared₀' committed₀' cleared₁' committed₁' (Ok k'))
+    (p : CentsPerMwDay) (priced : k.price ≡ Some p) where
   abbrev c : Contents
   c = contents_of book.now
 

@@ -6,27 +6,26 @@ use mathlib.Core.Option.{none}
 use Prim.Native.Nat.{ℕ}
 use contract.Lifetimes.{Lfts}
 use denote.Ref.{Bor, MutBor}
-use Rattle.calendar.specs.Year.{days_of}
+use Rattle.std.specs.Prelude.{Ok}
 use Rattle.auction.proofs.Price.{price-none}
 use Rattle.pricing.specs.Price.{as_price}
 use Rattle.layout.specs.Read.{contents_of}
-use Rattle.sale.specs.Auction.{offers_of, demand, total, price, row_make_whole, all_make_whole, daily_total, year_total}
+use Rattle.sale.specs.Auction.{offers_of, demand, total, price}
 use Rattle.call.specs.Answer.{Outcome}
 use Rattle.call.specs.Demands.{NothingCleared}
 use Rattle.sale.specs.Payment.{clearing_of}
 use Rattle.sale.specs.declared.Clearing.{Clearing}
-use Rattle.call.specs.declared.Answer.TheVariants.{Cleared as Answer-as-Cleared}
 use Rattle.call.proofs.Decided.{Called, call-outcome}
 use Rattle.call.proofs.Empty.{make-whole-none, daily-none, year-none}
 use Rattle.call.proofs.Outcomes.{cleared-clearing}
 
 module _ (κs : Lfts 3) (book : Bor (List ℕ)) (cleared₀ committed₀ cleared₁ committed₁ : MutBor (List ℕ)) (k : Clearing)
-    (called : Called κs book cleared₀ committed₀ cleared₁ committed₁ (Answer-as-Cleared k)) where
+    (called : Called κs book cleared₀ committed₀ cleared₁ committed₁ (Ok k)) where
   abbrev b : List ℕ
   b = book.now
 
-  out : Outcome b cleared₀.now committed₀.now (Answer-as-Cleared k) cleared₁.now committed₁.now
-  out = call-outcome κs book cleared₀ committed₀ cleared₁ committed₁ (Answer-as-Cleared k) called
+  out : Outcome b cleared₀.now committed₀.now (Ok k) cleared₁.now committed₁.now
+  out = call-outcome κs book cleared₀ committed₀ cleared₁ committed₁ (Ok k) called
 
   same : k ≡ clearing_of (contents_of b)
   same = cleared-clearing b cleared₀.now committed₀.now k cleared₁.now committed₁.now out

@@ -3,13 +3,14 @@
 -- In order: contents with one more offer are an auction with one more; so the totals and the prices of two clearings compare.
 -- Assumes nothing.
 use mathlib.Core.Path.{◌≡◌, ap, sym, subst₂, ◌∙◌}
-use mathlib.Core.List.{List, [], ◌∷◌, ◌++◌}
+use mathlib.Core.List.{List, [], ◌∷◌}
 use mathlib.Core.Option.{Option, none, some}
 use Prim.Native.Nat.{ℕ, suc, ◌≤◌, ◌<◌}
 use native.Mathlib.Numerals.{add-one}
 use lib.ListN.{length, length-append, get_or-append}
 use contract.Lifetimes.{Lfts}
 use denote.Ref.{Bor, MutBor}
+use Rattle.std.specs.Prelude.{Some, Ok}
 use Rattle.auction.specs.Clearing.{cleared_total, clearing_price}
 use Rattle.curve.specs.Price.{demand_of}
 use Rattle.region.specs.Region.{region_curve}
@@ -21,7 +22,6 @@ use Rattle.values.specs.Contents.{Contents, no_offer, offer_at}
 use Rattle.values.specs.declared.place.Offer.{Offer}
 use Rattle.units.specs.declared.CentsPerMwDay.{CentsPerMwDay}
 use Rattle.pricing.specs.Price.{as_price}
-use Rattle.pricing.specs.declared.ClearingPrice.TheVariants.{Price}
 use Rattle.layout.specs.Read.{contents_of}
 use Rattle.book.proofs.Accepted.{accepted-clearable}
 use Rattle.sale.specs.Auction.{offers_of, demand, total, price}
@@ -30,7 +30,6 @@ use Rattle.sale.specs.declared.Clearing.{Clearing}
 use Rattle.sale.proofs.Ground.{clearable-falls}
 use Rattle.call.specs.Answer.{Outcome}
 use Rattle.call.specs.Demands.{OneMoreOffer}
-use Rattle.call.specs.declared.Answer.TheVariants.{Cleared as Answer-as-Cleared}
 use Rattle.call.proofs.Decided.{Called, call-outcome}
 use Rattle.call.proofs.Outcomes.{cleared-accepted, cleared-clearing}
 
@@ -52,14 +51,14 @@ module _ (c c' : Contents) (m : OneMoreOffer c c') where
       }
 
 -- a price that is quoted is there
-pub quoted-there : (x : Option ℕ) (p : CentsPerMwDay) → Price p ≡ as_price x → x ≡ some p.0
+pub quoted-there : (x : Option ℕ) (p : CentsPerMwDay) → Some p ≡ as_price x → x ≡ some p.0
 quoted-there none p e = cc
 quoted-there (some q) p e = cc
 
 module _ (κs κs' : Lfts 3) (book : Bor (List ℕ)) (cleared₀ committed₀ cleared₁ committed₁ : MutBor (List ℕ)) (k : Clearing)
-    (called : Called κs book cleared₀ committed₀ cleared₁ committed₁ (Answer-as-Cleared k))
+    (called : Called κs book cleared₀ committed₀ cleared₁ committed₁ (Ok k))
     (book' : Bor (List ℕ)) (cleared₀' committed₀' cleared₁' committed₁' : MutBor (List ℕ)) (k' : Clearing)
-    (called' : Called κs' book' cleared₀' committed₀' cleared₁' committed₁' (Answer-as-Cleared k'))
+    (called' : Called κs' book' cleared₀' committed₀' cleared₁' committed₁' (Ok k'))
     (m : OneMoreOffer (contents_of book.now) (contents_of book'.now)) where
   abbrev b : List ℕ
   b = book.now
@@ -67,11 +66,11 @@ module _ (κs κs' : Lfts 3) (book : Bor (List ℕ)) (cleared₀ committed₀ cl
   abbrev b' : List ℕ
   b' = book'.now
 
-  out : Outcome b cleared₀.now committed₀.now (Answer-as-Cleared k) cleared₁.now committed₁.now
-  out = call-outcome κs book cleared₀ committed₀ cleared₁ committed₁ (Answer-as-Cleared k) called
+  out : Outcome b cleared₀.now committed₀.now (Ok k) cleared₁.now committed₁.now
+  out = call-outcome κs book cleared₀ committed₀ cleared₁ committed₁ (Ok k) called
 
-  out' : Outcome b' cleared₀'.now committed₀'.now (Answer-as-Cleared k') cleared₁'.now committed₁'.now
-  out' = call-outcome κs' book' cleared₀' committed₀' cleared₁' committed₁' (Answer-as-Cleared k') called'
+  out' : Outcome b' cleared₀'.now committed₀'.now (Ok k') cleared₁'.now committed₁'.now
+  out' = call-outcome κs' book' cleared₀' committed₀' cleared₁' committed₁' (Ok k') called'
 
   dearer : NoDearer (demand (contents_of b)) (offers_of (contents_of b).offers) (offers_of (contents_of b').offers)
   dearer =
@@ -95,7 +94,7 @@ module _ (κs κs' : Lfts 3) (book : Bor (List ℕ)) (cleared₀ committed₀ cl
       dearer.total
 
   -- Where there was a price there is one, and it is no higher.
-  pub call-one-more : (p : CentsPerMwDay) → k.price ≡ Price p → (q : CentsPerMwDay) × ((k'.price ≡ Price q) × (q.0 ≤ p.0))
+  pub call-one-more : (p : CentsPerMwDay) → k.price ≡ Some p → (q : CentsPerMwDay) × ((k'.price ≡ Some q) × (q.0 ≤ p.0))
   unfolding clearing_of price
   call-one-more p e =
       let low = quoted-there (price (contents_of b)) p (sym e ∙ ap (λ (c : Clearing). c.price) here) in

@@ -11,6 +11,7 @@ use native.Mathlib.Omega.{arith}
 use lib.ListN.{length, get_or}
 use contract.Lifetimes.{Lfts}
 use denote.Ref.{Bor, MutBor}
+use Rattle.std.specs.Prelude.{Ok}
 use Rattle.laws.proofs.Cases.{by_order}
 use Rattle.laws.proofs.Sums.{sum_to-place}
 use Rattle.auction.specs.Offers.{Offers, Demand}
@@ -19,7 +20,6 @@ use Rattle.auction.specs.Demands.{ByPrice}
 use Rattle.auction.proofs.Price.{margin_price, price-some}
 use Rattle.values.specs.Values.{held}
 use Rattle.values.specs.Contents.{offer_at}
-use Rattle.values.specs.declared.Verdict.TheVariants.{Passed}
 use Rattle.values.specs.declared.place.Offer.{Offer}
 use Rattle.values.proofs.Firsts.{and_then-right}
 use Rattle.limits.specs.Offers.{rows_fault}
@@ -30,14 +30,14 @@ use Rattle.book.proofs.Accepted.{accepted-contents, accepted-clearable}
 use Rattle.sale.specs.Auction.{offers_of}
 use Rattle.sale.specs.declared.Clearing.{Clearing}
 use Rattle.call.specs.Steps.{Together, StepOne}
-use Rattle.call.specs.declared.Answer.TheVariants.{Cleared as Answer-as-Cleared}
 use Rattle.call.proofs.Decided.{Called}
 use Rattle.call.proofs.Demands.{call-by-price}
 use Rattle.call.proofs.Together.{together, step-one}
+use Rattle.values.specs.Refusals.{no_fault}
 
 -- ---- the rows of an accepted book
 
-module _ (b : List ℕ) (accepted : first_fault b ≡ Passed) where
+module _ (b : List ℕ) (accepted : first_fault b ≡ no_fault) where
   -- the offers that it says, by row, and how many they are
   abbrev offer : ℕ → Offer
   offer = offer_at (contents_of b).offers
@@ -45,7 +45,7 @@ module _ (b : List ℕ) (accepted : first_fault b ≡ Passed) where
   abbrev count : ℕ
   count = length (contents_of b).offers
 
-  rows : rows_fault true (contents_of b).edition offer count ≡ Passed
+  rows : rows_fault true (contents_of b).edition offer count ≡ no_fault
   unfolding contents_fault
   rows = and_then-right (parameters_fault (contents_of b).parameters) _ (accepted-contents b accepted)
 
@@ -80,7 +80,7 @@ dearer-nothing d o x by i j l m dearer part =
     (λ h. absurd (part (by.whole p priced i l h))))
 
 module _ (κs : Lfts 3) (book : Bor (List ℕ)) (cleared₀ committed₀ cleared₁ committed₁ : MutBor (List ℕ)) (k : Clearing)
-    (called : Called κs book cleared₀ committed₀ cleared₁ committed₁ (Answer-as-Cleared k)) where
+    (called : Called κs book cleared₀ committed₀ cleared₁ committed₁ (Ok k)) where
   -- REQUEST 06. Where a row does not clear whole, every dearer row clears nothing: no step of a resource clears before its
   -- cheaper steps are cleared whole.
   pub steps-in-order : let offer = offer_at (contents_of book.now).offers in

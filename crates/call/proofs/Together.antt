@@ -4,21 +4,21 @@
 -- Assumes nothing.
 use mathlib.Core.Path.{◌≡◌, refl, sym, ap, ◌∙◌}
 use mathlib.Core.Bool.{true}
-use Prim.Native.Nat.{ℕ, zero, suc, ◌+◌, ◌-◌, ◌≤◌, ◌<◌}
+use Prim.Native.Nat.{ℕ, zero, suc, ◌-◌, ◌≤◌, ◌<◌}
 use native.Mathlib.Omega.{arith}
 use Rattle.laws.proofs.Cases.{by_order, by-equality}
 use Rattle.values.specs.Values.{held}
 use Rattle.values.specs.declared.Value.TheVariants.{Given}
 use Rattle.values.specs.declared.place.Offer.{Offer}
-use Rattle.values.specs.declared.Verdict.TheVariants.{Passed}
 use Rattle.repeats.proofs.Fresh.{fresh-differs}
 use Rattle.steps.proofs.Following.{Follows}
 use Rattle.limits.specs.Offers.{rows_fault}
 use Rattle.limits.proofs.PassingRows.{rows-fresh, rows_behind, rows-follow, rows-priced}
 use Rattle.call.specs.Steps.{Together, StepOne}
+use Rattle.values.specs.Refusals.{no_fault}
 
 module _ (edition : ℕ) (offers : ℕ → Offer) (n : ℕ)
-    (e : rows_fault true edition offers n ≡ Passed) where
+    (e : rows_fault true edition offers n ≡ no_fault) where
   priced : (row : ℕ) → row < n → (offers row).price ≡ Given (held (offers row).price)
   priced row l = (rows-priced edition offers n e row l).price-given
 

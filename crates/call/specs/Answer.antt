@@ -1,15 +1,17 @@
 -- What the call answers and what it leaves in the two result buffers, for every string of bytes.
 -- Assumes nothing.
-use Rattle.std.specs.Prelude.{ℕ, ◌≡◌, List, length, leb}
-use Rattle.values.specs.Refusals.{unless, and_then, short_buffer, buffer_by}
-use Rattle.values.specs.declared.Verdict.{Verdict}
-use Rattle.values.specs.declared.Verdict.TheVariants.{Passed, Refused}
+use Rattle.std.specs.Prelude.{ℕ, ◌≡◌, List, length, leb, Err, Ok}
+use Rattle.values.specs.Refusals.{unless, and_then, short_buffer, buffer_by, Verdict}
 use Rattle.layout.specs.Read.{contents_of}
 use Rattle.book.specs.Faults.{first_fault}
 use Rattle.sale.specs.Payment.{clearing_of, cleared_list, committed_list}
 use Rattle.sale.specs.declared.Clearing.{Clearing}
-use Rattle.call.specs.declared.Answer.{Answer}
-use Rattle.call.specs.declared.Answer.TheVariants.{Cleared as Answer-as-Cleared, Refused as Answer-as-Refused}
+use Rattle.std.specs.declared.result.Result.{Result}
+use Rattle.values.specs.declared.refusal.Refusal.{Refusal}
+
+-- what the call answers: the clearing, or the refusal and nothing else
+abbrev pub Answer : Type 0
+Answer = Result Clearing Refusal
 
 -- 9: a result buffer has fewer entries than offers; the cleared one is looked at first
 unfoldable pub buffer_fault : ℕ → ℕ → ℕ → Verdict
@@ -22,8 +24,8 @@ call_fault b cleared committed = and_then (first_fault b) (buffer_fault (length 
 
 -- a refusal's number and place, or the clearing
 abbrev pub answer_by : Verdict → Clearing → Answer
-answer_by Passed clearing = Answer-as-Cleared clearing
-answer_by (Refused number place) clearing = Answer-as-Refused number place
+answer_by (Ok u) clearing = Ok clearing
+answer_by (Err refusal) clearing = Err refusal
 
 -- the answer where no buffer is asked for: the book's own first fault, or its clearing
 abbrev pub answer_of : List ℕ → Answer

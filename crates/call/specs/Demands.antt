@@ -3,15 +3,14 @@
 -- In order: a clearing in which nothing cleared; contents that differ in minimum blocks alone, and calls that clear alike;
 -- contents with one more offer.
 -- Assumes nothing.
-use Rattle.std.specs.Prelude.{ℕ, ◌<◌, ◌≡◌, List, [], ◌∷◌, ◌++◌, length, get_or}
+use Rattle.std.specs.Prelude.{ℕ, ◌<◌, ◌≡◌, List, [], ◌∷◌, ◌++◌, length, get_or, None}
 use Rattle.values.specs.Contents.{Contents, offer_at}
 use Rattle.values.specs.declared.place.Offer.{Offer}
-use Rattle.pricing.specs.declared.ClearingPrice.TheVariants.{NoPrice}
 use Rattle.sale.specs.declared.Clearing.{Clearing}
 
 -- a clearing in which nothing cleared: no price, and nothing to pay
 pub record NothingCleared (k : Clearing) : Type 0 where
-  pub no-price : k.price ≡ NoPrice
+  pub no-price : k.price ≡ None
   pub no-make-whole : k.make_whole ≡ 0
   pub no-daily : k.daily ≡ 0
   pub no-year : k.year ≡ 0

@@ -1,56 +1,41 @@
-// The rows of a book: read once, into columns that are lent, and cleared.
-ghost use Rattle.std.specs.Prelude.{◌≡◌};
-ghost use Rattle.columns.specs.inner.Columns.{columns_of, Blank};
+// The rows of a book: read once, into columns, and cleared.
+ghost use Rattle.std.specs.Prelude.{◌≡◌, ◌≤◌};
 ghost use Rattle.book.specs.inner.Opening.{Opened};
 ghost use Rattle.call.specs.Answer.{Outcome, buffer_fault};
 
-use crate::Answer;
+use book::Opening;
+use columns::Columns;
 use reading::read_rows;
+use sale::Clearing;
 use sale::payment::clearing;
-use values::head::Parameters;
-use values::{Verdict, and_then};
+use values::Refusal;
 
 // 9: the result buffer that is too short, the cleared one first.
-fn buffer_fault(offers: usize, cleared: usize, committed: usize) -> Verdict
+fn buffer_fault(offers: usize, cleared: usize, committed: usize) -> Result<(), Refusal>
     ensures { result ≡ buffer_fault offers cleared committed }
 {
     if cleared < offers {
-        return Verdict::Refused(9, 1);
+        return Err(Refusal::ShortBuffer(1));
     }
     if committed < offers {
-        return Verdict::Refused(9, 2);
+        return Err(Refusal::ShortBuffer(2));
     }
-    Verdict::Passed
+    Ok(())
 }
 
-// Clears a book whose edition, parameters and number of rows have passed. Its rows are read once, into columns that are blank.
-pub(crate) fn clear_rows(
+// Clears a book of at most N rows whose edition, parameters and number of rows have passed. Its rows are read once, into columns of N.
+pub(crate) fn clear_in<const N: usize>(
     book: &[u8],
-    edition: u32,
-    p: Parameters,
-    rows: u32,
-    prices: &mut [u32],
-    quantities: &mut [u32],
-    leasts: &mut [u32],
-    resources: &mut [u32],
-    stamps: &mut [u64],
-    steps: &mut [u32],
+    head: Opening,
     cleared: &mut [u32],
     committed: &mut [u32],
-) -> Answer
-    requires opened { Opened book.now edition p rows }
-    requires blank { Blank rows (columns_of prices.old quantities.old leasts.old resources.old stamps.old steps.old) }
+) -> Result<Clearing, Refusal>
+    requires { Opened book.now head.edition head.parameters head.rows × ((head.rows ≤ N) × (N ≤ 600)) }
     ensures { Outcome book.now cleared.old committed.old result cleared.new committed.new }
 {
-    let n = rows as usize;
-    let short = buffer_fault(n, cleared.len(), committed.len());
-    let found = read_rows(
-        book, edition, 1, rows, prices, quantities, leasts, resources, stamps, steps,
-    );
-    if let Verdict::Refused(number, place) = and_then(found, short) {
-        return Answer::Refused(number, place);
-    }
-    Answer::Cleared(clearing(
-        p, n, prices, quantities, leasts, resources, stamps, steps, cleared, committed,
-    ))
+    let mut columns = Columns::<N>::blank();
+    let n = head.rows as usize;
+    read_rows(book, head.edition, 1, head.rows, &mut columns)?;
+    buffer_fault(n, cleared.len(), committed.len())?;
+    Ok(clearing(head.parameters, &columns.rows(n), cleared, committed))
 }

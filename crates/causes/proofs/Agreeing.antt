@@ -24,11 +24,11 @@ module _ (s : List ℕ) where
   pub letters-agree : (letters : List ℕ) → passes (letters_cause s letters) ≡ opens_with s letters
   unfolding letters_cause opens_with every
   letters-agree letters =
-      passes-first _ (λ i. eqb (byte s i) (byte letters i)) 4 (λ i l. passes-unless _ 1 i) ∙ simp and_assoc
+      passes-first _ (λ i. eqb (byte s i) (byte letters i)) 4 (λ i l. passes-unless _ _) ∙ simp and_assoc
 
   pub zeros-agree : (from n : ℕ) → passes (zeros_cause s from n) ≡ blank s from n
   unfolding zeros_cause blank
-  zeros-agree from n = passes-first _ (λ i. eqb (byte s (from + i)) 0) n (λ i l. passes-unless _ 7 (from + i))
+  zeros-agree from n = passes-first _ (λ i. eqb (byte s (from + i)) 0) n (λ i l. passes-unless _ _)
 
   head-marks-agree : passes (head_marks_cause s) ≡ head_marks_hold s
   unfolding head_marks_cause head_marks_hold
@@ -83,7 +83,7 @@ module _ (s : List ℕ) where
     unused-agree =
         passes-first _ (λ j. eqb (byte (place_of s i) (0 + j)) 0) 32
         (λ j l.
-        rw zero-add (passes-unless _ 7 (28 + i * 32 + j) ∙ ap (λ (k : ℕ). eqb k 0) (sym (place_byte s i j l))))
+        rw zero-add (passes-unless _ _ ∙ ap (λ (k : ℕ). eqb k 0) (sym (place_byte s i j l))))
 
     place-agree : (last : LastBytes) (used : Bool)
         → passes (place_cause last used s (28 + i * 32)) ≡ place_holds last used (place_of s i)
@@ -107,7 +107,7 @@ module _ (b : List ℕ) (t : Section) where
       let s = block_of b (t.first + j) in
       let here = rows_here t.rows j in
       rows_agree s t (t.number + j) here
-      ∙ sym (passes-unless (rows_hold t s (t.number + j) here) 3 (t.number + j))
+      ∙ sym (passes-unless (rows_hold t s (t.number + j) here) _)
 
   pub section-agree : passes (section_cause b t) ≡ passes (section_fault b t)
   unfolding section_cause section_fault

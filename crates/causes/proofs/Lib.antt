@@ -1,4 +1,3 @@
-pub mod Keeping
 pub mod Passes
 pub mod Agreeing
 pub mod Found

@@ -7,41 +7,76 @@ pub mod rules;
 mod tests;
 
 ghost use Rattle.std.specs.Prelude.{◌≡◌};
-ghost use Rattle.causes.specs.Cause.{cause_of};
+ghost use Rattle.values.specs.Refusals.{no_fault};
+ghost use Rattle.layout.specs.Form.{length_fault};
+ghost use Rattle.causes.specs.Cause.{number_of, blocks_cause, cause_of};
 
 use block::SIZE;
 use head::head_cause;
 use layout::form::lengths;
 use layout::offers::offers_section;
 use rows::section_cause;
-use values::Verdict;
 
-// The tests of a layout, in the order of their numbers: the letters; the edition; the block's number; the count; a mark that
-// has no meaning; a value marked absent that is not zero; a byte that has to be zero.
-pub const LETTERS: u32 = 1;
+// A test of a block's layout.
+#[derive(Clone, Copy, Debug, PartialEq, Eq)]
+pub enum Test {
+    // 1: one of the four letters
+    Letters,
+    // 2: the edition
+    Edition,
+    // 3: the block's number
+    Number,
+    // 4: the count
+    Count,
+    // 5: a mark that has no meaning
+    Mark,
+    // 6: a value marked absent that is not zero
+    Absent,
+    // 7: a byte that has to be zero
+    Zero,
+}
 
-pub const EDITION: u32 = 2;
+impl Test {
+    // Its number, in the order of the layout.
+    pub fn number(self) -> u32
+        ensures { result ≡ number_of self }
+    {
+        match self {
+            Test::Letters => 1,
+            Test::Edition => 2,
+            Test::Number => 3,
+            Test::Count => 4,
+            Test::Mark => 5,
+            Test::Absent => 6,
+            Test::Zero => 7,
+        }
+    }
+}
 
-pub const NUMBER: u32 = 3;
+// Why a block is not laid out as it has to be: the test that fails first, and the byte of the block that it fails at.
+#[derive(Clone, Copy, Debug, PartialEq, Eq)]
+pub struct Cause {
+    pub test: Test,
+    pub byte: u32,
+}
 
-pub const COUNT: u32 = 4;
+// The first cause in a book whose length holds: block 0 first, then the offer blocks.
+#[tactic(auto, using(values::proofs::Firsts::in_turn), unfolding(crate::specs::Cause::blocks_cause))]
+fn blocks_cause(book: &[u8]) -> Result<(), Cause>
+    requires { length_fault book.now ≡ no_fault }
+    ensures { result ≡ blocks_cause book.now }
+{
+    head_cause(&book[0..SIZE], book.len() / SIZE)?;
+    section_cause(book, offers_section(book))
+}
 
-pub const MARK: u32 = 5;
-
-pub const ABSENT: u32 = 6;
-
-pub const ZERO: u32 = 7;
-
-// The cause in the first block that refusal 3 finds: the test that fails first, and the byte of the block. None where the length is
-// wrong, of which refusal 1 tells.
-pub fn layout_cause(book: &[u8]) -> Verdict
+// The cause in the first block that refusal 3 finds. None where the length is wrong, of which refusal 1 tells.
+#[tactic(auto, unfolding(crate::specs::Cause::cause_of))]
+pub fn layout_cause(book: &[u8]) -> Option<Cause>
     ensures { result ≡ cause_of book.now }
 {
-    if let Verdict::Refused(_, _) = lengths(book) {
-        return Verdict::Passed;
+    if lengths(book).is_err() {
+        return None;
     }
-    if let Verdict::Refused(test, byte) = head_cause(&book[0..SIZE], book.len() / SIZE) {
-        return Verdict::Refused(test, byte);
-    }
-    section_cause(book, offers_section(book))
+    blocks_cause(book).err()
 }

@@ -1,65 +1,72 @@
 // The rule of steps that a row breaks.
 ghost use Rattle.std.specs.Prelude.{◌≡◌};
-ghost use Rattle.steps.specs.Steps.{not_cheaper, flexible};
-ghost use Rattle.causes.specs.Rules.{follow_cause, step_cause};
+ghost use Rattle.causes.specs.Rules.{rule_number, follow_cause, step_cause};
 
-use values::Value;
+use steps::{is_flexible, not_cheaper};
 use values::place::Offer;
 
-// Whether a price does not fall from the one before it, where both are given.
-fn not_cheaper(before: Value, price: Value) -> bool
-    ensures { result ≡ not_cheaper before price }
-{
-    let Value::Given(least) = before else {
-        return true;
-    };
-    match price {
-        Value::Given(cents) => least <= cents,
-        Value::Missing => true,
+// A rule of steps that a row past step 1 can break.
+#[derive(Clone, Copy, Debug, PartialEq, Eq)]
+pub enum Rule {
+    // 1: there is a row before it
+    Before,
+    // 2: that row is of the same resource
+    Resource,
+    // 3: it is one step more
+    Step,
+    // 4: its price is not under the one before
+    Price,
+    // 5: it has no minimum block
+    Block,
+}
+
+impl Rule {
+    // Its number, in the order of the tests.
+    pub fn number(self) -> u32
+        ensures { result ≡ rule_number self }
+    {
+        match self {
+            Rule::Before => 1,
+            Rule::Resource => 2,
+            Rule::Step => 3,
+            Rule::Price => 4,
+            Rule::Block => 5,
+        }
     }
 }
 
-// Whether there is no minimum block.
-fn is_flexible(block: Value) -> bool
-    ensures { result ≡ flexible block }
-{
-    if let Value::Missing = block {
-        true
-    } else {
-        false
-    }
-}
-
-// The first rule that an offer breaks past the one before it: 2 it is of another resource, 3 it is not one step more, 4 its price is
-// under the one before, 5 it has a minimum block; 0 where it follows. Steps are compared in 64 bits, where one more than a step fits.
-fn follow_cause(before: Offer, o: Offer) -> u32
+// The first rule that an offer breaks past the one before it, if it breaks one. Steps are compared in 64 bits, where one more than a
+// step fits.
+#[tactic(auto, unfolding(crate::specs::Rules::follow_cause))]
+fn follow_cause(before: Offer, o: Offer) -> Option<Rule>
     ensures { result ≡ follow_cause before o }
 {
-    let least = before.price;
-    let price = o.price;
-    let block = o.block;
     if o.resource != before.resource {
-        return 2;
+        return Some(Rule::Resource);
     }
-    if o.step as u64 != before.step as u64 + 1 {
-        return 3;
+    if u64::from(o.step) != u64::from(before.step) + 1 {
+        return Some(Rule::Step);
     }
-    if !not_cheaper(least, price) {
-        return 4;
+    if !not_cheaper(before.price, o.price) {
+        return Some(Rule::Price);
     }
-    if is_flexible(block) { 0 } else { 5 }
+    if !is_flexible(o.block) {
+        return Some(Rule::Block);
+    }
+    None
 }
 
-// The first rule of steps that a row breaks: 1 past step 1 there is no row before it, or else that of its offer past the one before; 0
-// where it keeps the rules.
-pub fn step_cause(before: Offer, o: Offer, row: usize) -> u32
+// The first rule of steps that a row breaks, if it breaks one: past step 1 there is a row before it, and its offer follows the one
+// before.
+#[tactic(auto, unfolding(crate::specs::Rules::step_cause))]
+pub fn step_cause(before: Offer, o: Offer, row: usize) -> Option<Rule>
     ensures { result ≡ step_cause before o row }
 {
     if o.step == 1 {
-        return 0;
+        return None;
     }
     if row == 0 {
-        return 1;
+        return Some(Rule::Before);
     }
     follow_cause(before, o)
 }

@@ -1,2 +1,4 @@
 pub mod Turns
 pub mod Offers
+pub mod Firsts
+pub mod Decided

@@ -4,14 +4,11 @@
 -- the columns are the offers of the auction; columns of zeros have room, and once all offers are read they are listed.
 -- Assumes nothing.
 use mathlib.Core.Path.{◌≡◌, refl, ap, sym, subst, ◌∙◌, fun_ext}
-use mathlib.Core.Bool.{cond}
 use mathlib.Core.List.{List}
 use Prim.Native.Nat.{ℕ, ◌≤◌, ◌<◌}
 use native.Mathlib.Omega.{arith}
 use lib.ListN.{length, get_or, get_or-eq_default}
-use lib.Dec.{ltb}
 use borrow.Author.Tests.{lt-ltb, le-ltb}
-use Rattle.laws.specs.Filled.{filled}
 use Rattle.laws.proofs.Cases.{by_order, cond-true, cond-false}
 use Rattle.laws.proofs.Fills.{get_d-filled}
 use Rattle.laws.proofs.Filling.{zeros, length-zeros, length-filling, filled-zeros}

@@ -1,2 +1,4 @@
 pub mod Column
 pub mod Columns
+pub mod Ordered
+pub mod Sides

@@ -8,15 +8,16 @@ use mathlib.Core.List.{List, [], ◌∷◌, map}
 use Prim.Native.Nat.{ℕ, suc, ◌+◌}
 use native.Mathlib.Omega.{arith}
 use lib.ListN.{length, length-map}
-use borrow.Author.Tests.{eq-eqb, ne_eqb}
-use Rattle.laws.proofs.Cases.{by-test, by-equality, cond-true, cond-false}
+use Rattle.laws.proofs.Cases.{by-test, cond-true, cond-false}
 use Rattle.laws.proofs.Those.{those-none, those-passed, those-left}
+use Rattle.std.specs.Prelude.{Some, None}
+use Rattle.std.specs.declared.option.Option.{Option}
 use Rattle.values.specs.Contents.{Contents}
 use Rattle.values.specs.declared.head.Parameters.{Parameters}
 use Rattle.values.specs.declared.place.Offer.{Offer}
 use Rattle.call.specs.Losers.{to_price, at_or_below, SameToPrice}
 use Rattle.compare.specs.Same.{same_offer, field_apart}
-use Rattle.compare.specs.Comparison.{Standing, standing, standing_compared, offers_compared, compared_to}
+use Rattle.compare.specs.Comparison.{Standing, standing, standing_compared, offers_compared, parameters_compared, compared_to}
 use Rattle.compare.specs.declared.Comparison.{Comparison}
 use Rattle.compare.specs.declared.Comparison.TheVariants.{Applies, OffersDiffer, ParametersDiffer, OnlyFirst, OnlySecond}
 use Rattle.compare.proofs.Sames.{offer-same, offer-self, parameters-same, parameters-self}
@@ -110,24 +111,27 @@ module _ (p : ℕ) (c c' : Contents) where
   pub compared_same : (q s : ℕ) → compared_to p c c' ≡ Applies q s
       → SameToPrice p c c' × ((q ≡ p) × (s ≡ length (at_or_below p c.offers)))
   unfolding compared_to offers_compared
-  compared_same q s e =
-      by-equality (field_apart c.parameters c'.parameters) 0
-      (λ z.
-      let a = compared-agree p 0 (standing p 0 c.offers) (standing p 0 c'.offers) q s (sym (cond-true _ _ _ (eq-eqb _ 0 z)) ∙ e) in (
-        record {
-          parameters = parameters-same c.parameters c'.parameters z;
-          offers = sym (standing-offers p 0 c.offers) ∙ a.offers ∙ standing-offers p 0 c'.offers;
-        },
-        (a.price, omega (arith, a.count, ap length (standing-offers p 0 c.offers))),
-      ))
-      (λ n. absurd (field_apart_lem _ q s (sym (cond-false _ _ _ (ne_eqb _ 0 n)) ∙ e)))
+  compared_same q s e = go (field_apart c.parameters c'.parameters) refl e
+    where
+      go : (told : Option ℕ) → field_apart c.parameters c'.parameters ≡ told
+          → parameters_compared told (offers_compared p c.offers c'.offers) ≡ Applies q s
+          → SameToPrice p c c' × ((q ≡ p) × (s ≡ length (at_or_below p c.offers)))
+      go (Some field) z f = absurd (field_apart_lem field q s f)
+      go None z f =
+          let a = compared-agree p 0 (standing p 0 c.offers) (standing p 0 c'.offers) q s f in (
+            record {
+              parameters = parameters-same c.parameters c'.parameters z;
+              offers = sym (standing-offers p 0 c.offers) ∙ a.offers ∙ standing-offers p 0 c'.offers;
+            },
+            (a.price, omega (arith, a.count, ap length (standing-offers p 0 c.offers))),
+          )
 
   -- and where they do, it is said so
   pub same-compared : SameToPrice p c c' → compared_to p c c' ≡ Applies p (length (at_or_below p c.offers))
   unfolding compared_to offers_compared
   same-compared s =
-      let z : field_apart c.parameters c'.parameters ≡ 0 = subst (λ (r : Parameters). field_apart c.parameters r ≡ 0) s.parameters (parameters-self c.parameters) in
-      cond-true _ _ _ (eq-eqb _ 0 z)
+      let z : field_apart c.parameters c'.parameters ≡ None = subst (λ (r : Parameters). field_apart c.parameters r ≡ None) s.parameters (parameters-self c.parameters) in
+      ap (λ (told : Option ℕ). parameters_compared told (offers_compared p c.offers c'.offers)) z
       ∙ agree-compared p 0 (standing p 0 c.offers) (standing p 0 c'.offers)
       (standing-offers p 0 c.offers ∙ s.offers ∙ sym (standing-offers p 0 c'.offers))
       ∙ ap (Applies p) (omega (arith, ap length (standing-offers p 0 c.offers), length-map (standing p 0 c.offers) (λ (x : Standing). x.offer)))

@@ -1,19 +1,22 @@
 -- What the tests of sameness say.
 --
--- In order: two values, two offers and two sets of parameters that pass are the same, and the same pass; how the code puts the tests together.
+-- In order: two values, two offers and two sets of parameters that pass are the same, and the same pass; the code's equality.
 -- Assumes nothing.
 use mathlib.Core.Path.{◌≡◌, refl, sym, ap, ◌∙◌}
-use mathlib.Core.Bool.{Bool, true, false, cond, ◌&&◌, and_assoc, false≢true}
+use mathlib.Core.Bool.{Bool, true, false, cond, not, false≢true}
 use Prim.Native.Nat.{ℕ}
-use native.Mathlib.Omega.{arith}
 use lib.Dec.{eqb}
-use borrow.Author.Tests.{eqb-true, eq-eqb, ne_eqb}
-use Rattle.laws.proofs.Cases.{cond-false, and-true, and_left, and_right}
+use borrow.Author.Tests.{eqb-true, eq-eqb, not-true, not-false}
+use Rattle.laws.proofs.Cases.{and-true, and_left, and_right}
 use Rattle.values.specs.declared.Value.{Value}
 use Rattle.values.specs.declared.Value.TheVariants.{Given, Missing}
 use Rattle.values.specs.declared.head.Parameters.{Parameters}
 use Rattle.values.specs.declared.place.Offer.{Offer}
+use Rattle.values.specs.contracts.ValuePartialEq.TheImpl as value-eq
+use Rattle.values.specs.contracts.place.OfferPartialEq.TheImpl as offer-eq
 use Rattle.compare.specs.Same.{same_value, same_offer, field_apart}
+use Rattle.std.specs.Prelude.{Some, None}
+use Rattle.std.specs.declared.option.Option.{Option}
 
 eqb-self : (n : ℕ) → eqb n n ≡ true
 eqb-self n = eq-eqb n n refl
@@ -59,32 +62,41 @@ offer-self o =
     (and-true _ _ (eqb-self o.quantity)
     (and-true _ _ (value-self o.block) (and-true _ _ (eqb-self o.stamp) (eqb-self o.step))))))
 
--- the seven tests, one after the other
-pub offer-tests : (o other : Offer) (price block : Bool) → price ≡ same_value o.price other.price → block ≡ same_value o.block other.block
-    → (((((eqb o.resource other.resource && eqb o.seller other.seller) && price) && eqb o.quantity other.quantity) && block)
-    && eqb o.stamp other.stamp)
-    && eqb o.step other.step
-    ≡ same_offer o other
+-- the code's `==` is the test
+pub value-equal : (v w : Value) → value-eq.ghosts.eq v w ≡ same_value v w
+value-equal (Given n) (Given m) = refl
+value-equal (Given n) Missing = refl
+value-equal Missing (Given m) = refl
+value-equal Missing Missing = refl
+
+-- and its `!=` the other way round
+pub values-differ : {t : Bool} (v w : Value) → t ≡ not (value-eq.ghosts.eq v w) → t ≡ true → same_value v w ≡ false
+values-differ v w e f = sym (value-equal v w) ∙ not-true _ (sym e ∙ f)
+
+pub values-agree : {t : Bool} (v w : Value) → t ≡ not (value-eq.ghosts.eq v w) → t ≡ false → same_value v w ≡ true
+values-agree v w e f = sym (value-equal v w) ∙ not-false _ (sym e ∙ f)
+
+pub offer-equal : (o other : Offer) → offer-eq.ghosts.eq o other ≡ same_offer o other
 unfolding same_offer
-offer-tests o other price block e f = simp (and_assoc, e, f)
+offer-equal o other = rw (value-equal o.price other.price, value-equal o.block other.block) refl
 
 -- ---- parameters
 
--- a field's number where its values differ: no field's number is 0
-next_field : (t : Bool) (next field : ℕ) → (field ≡ 0 → ⊥) → cond t next field ≡ 0 → (t ≡ true) × (next ≡ 0)
-next_field true next field some e = (refl, e)
-next_field false next field some e = absurd (some e)
+-- where no field is told, the values are the same, and what comes next tells none
+next_field : (t : Bool) (next : Option ℕ) (field : ℕ) → cond t next (Some field) ≡ None → (t ≡ true) × (next ≡ None)
+next_field true next field e = (refl, e)
+next_field false next field e = cc
 
 -- parameters of which no field differs are the same
-pub parameters-same : (p other : Parameters) → field_apart p other ≡ 0 → p ≡ other
+pub parameters-same : (p other : Parameters) → field_apart p other ≡ None → p ≡ other
 unfolding field_apart
 parameters-same p other e =
-    let e₁ = next_field (eqb p.year other.year) _ 1 (λ z. omega arith) e in
-    let e₂ = next_field (same_value p.cost other.cost) _ 2 (λ z. omega arith) e₁.1 in
-    let e₃ = next_field (same_value p.offset other.offset) _ 3 (λ z. omega arith) e₂.1 in
-    let e₄ = next_field (same_value p.outage other.outage) _ 4 (λ z. omega arith) e₃.1 in
-    let e₅ = next_field (same_value p.requirement other.requirement) _ 5 (λ z. omega arith) e₄.1 in
-    let e₆ = next_field (same_value p.margin other.margin) 0 6 (λ z. omega arith) e₅.1 in
+    let e₁ = next_field (eqb p.year other.year) _ 1 e in
+    let e₂ = next_field (same_value p.cost other.cost) _ 2 e₁.1 in
+    let e₃ = next_field (same_value p.offset other.offset) _ 3 e₂.1 in
+    let e₄ = next_field (same_value p.outage other.outage) _ 4 e₃.1 in
+    let e₅ = next_field (same_value p.requirement other.requirement) _ 5 e₄.1 in
+    let e₆ = next_field (same_value p.margin other.margin) None 6 e₅.1 in
     λ i. record {
       year = eqb-true p.year other.year e₁.0 i;
       cost = value_same p.cost other.cost e₂.0 i;
@@ -95,23 +107,7 @@ parameters-same p other e =
     }
 
 -- of parameters beside themselves no field differs
-pub parameters-self : (p : Parameters) → field_apart p p ≡ 0
+pub parameters-self : (p : Parameters) → field_apart p p ≡ None
 unfolding field_apart
 parameters-self p =
     rw (eqb-self p.year, value-self p.cost, value-self p.offset, value-self p.outage, value-self p.requirement, value-self p.margin)
-
-module _ (p other : Parameters) (margin last later third given : ℕ)
-    (m : margin ≡ cond (same_value p.margin other.margin) 0 6)
-    (f : last ≡ cond (same_value p.requirement other.requirement) margin 5)
-    (g : later ≡ cond (same_value p.outage other.outage) last 4)
-    (h : third ≡ cond (same_value p.offset other.offset) later 3)
-    (k : given ≡ cond (same_value p.cost other.cost) third 2) where
-  -- where the year is the same, what comes after it
-  pub field-later : p.year ≡ other.year → given ≡ field_apart p other
-  unfolding field_apart
-  field-later e = k ∙ rw (h, g, f, m, eq-eqb p.year other.year e)
-
--- where it differs, the year
-pub field-year : (p other : Parameters) → (p.year ≡ other.year → ⊥) → 1 ≡ field_apart p other
-unfolding field_apart
-field-year p other n = sym (cond-false _ _ _ (ne_eqb p.year other.year n))

@@ -10,18 +10,14 @@ use native.Mathlib.Omega.{arith}
 use lib.ListN.{length}
 use contract.Lifetimes.{Lfts}
 use denote.Ref.{Bor, MutBor}
+use Rattle.std.specs.Prelude.{Err, Some, None, Ok}
 use Rattle.values.specs.Contents.{Contents}
-use Rattle.values.specs.declared.Verdict.{Verdict}
-use Rattle.values.specs.declared.Verdict.TheVariants.{Passed, Refused}
-use Rattle.pricing.specs.declared.ClearingPrice.{ClearingPrice}
-use Rattle.pricing.specs.declared.ClearingPrice.TheVariants.{Price, NoPrice}
 use Rattle.layout.specs.Read.{contents_of}
 use Rattle.book.specs.Faults.{first_fault}
 use Rattle.sale.specs.Payment.{clearing_of}
 use Rattle.sale.specs.declared.Clearing.{Clearing}
 use Rattle.call.specs.Answer.{answer_by}
 use Rattle.call.specs.Losers.{at_or_below, SameToPrice, SameSale}
-use Rattle.call.specs.declared.Answer.TheVariants.{Cleared as Answer-as-Cleared}
 use Rattle.call.proofs.Decided.{Called}
 use Rattle.call.proofs.Losers.{call-sells, call-losers}
 use Rattle.compare.specs.Comparison.{against_by, compared_by, comparison_of, TheoremApplies}
@@ -29,6 +25,9 @@ use Rattle.compare.specs.declared.Comparison.{Comparison}
 use Rattle.compare.specs.declared.Comparison.TheVariants.{Applies, FirstRefused, SecondRefused, NothingClears}
 use Rattle.compare.proofs.Applying.{compared_same, same-compared}
 use Rattle.compare.proofs.compare.Reads as compare
+use Rattle.values.specs.Refusals.{Verdict, no_fault}
+use Rattle.values.specs.declared.refusal.Refusal.{Refusal}
+use Rattle.pricing.specs.Price.{ClearingPrice}
 
 -- For every two strings of bytes the comparison has one answer.
 pub compare-decided : (κs : Lfts 2) (first second first' second' : Bor (List ℕ)) (r s : Comparison)
@@ -42,17 +41,17 @@ compare-decided κs first second first' second' r s e f x y = x ∙ ap₂ compar
 
 -- what is known where an accepted book's price is p
 record Known (v v' : Verdict) (price : ClearingPrice) (c c' : Contents) (p shared : ℕ) : Type 0 where
-  accepted : v ≡ Passed
-  accepted' : v' ≡ Passed
-  priced : price ≡ Price (record { 0 = p })
+  accepted : v ≡ no_fault
+  accepted' : v' ≡ no_fault
+  priced : price ≡ Some (record { 0 = p })
   same : SameToPrice p c c'
   count : shared ≡ length (at_or_below p c.offers)
 
-refused-apart : (n m p s : ℕ) → FirstRefused n m ≡ Applies p s → ◌≡◌ {A = ℕ} 0 1
-refused-apart n m p s e = cc
+refused-apart : (refusal : Refusal) (p s : ℕ) → FirstRefused refusal ≡ Applies p s → ◌≡◌ {A = ℕ} 0 1
+refused-apart refusal p s e = cc
 
-second-apart : (n m p s : ℕ) → SecondRefused n m ≡ Applies p s → ◌≡◌ {A = ℕ} 0 1
-second-apart n m p s e = cc
+second-apart : (refusal : Refusal) (p s : ℕ) → SecondRefused refusal ≡ Applies p s → ◌≡◌ {A = ℕ} 0 1
+second-apart refusal p s e = cc
 
 nothing-apart : (p s : ℕ) → NothingClears ≡ Applies p s → ◌≡◌ {A = ℕ} 0 1
 nothing-apart p s e = cc
@@ -60,19 +59,19 @@ nothing-apart p s e = cc
 -- a comparison that says so shows all of it
 by-known : (v v' : Verdict) (k : Clearing) (c c' : Contents) (p s : ℕ) → compared_by (answer_by v k) v' c c' ≡ Applies p s
     → Known v v' k.price c c' p s
-by-known (Refused n m) v' k c c' p s e = absurd (omega (arith, refused-apart n m p s e))
-by-known Passed v' k c c' p s e = go v' k.price e
+by-known (Err n) v' k c c' p s e = absurd (omega (arith, refused-apart n p s e))
+by-known (Ok u) v' k c c' p s e = go v' k.price e
   where
-    go : (w : Verdict) (price : ClearingPrice) → against_by w price c c' ≡ Applies p s → Known Passed w price c c' p s
-    go (Refused n m) price f = absurd (omega (arith, second-apart n m p s f))
-    go Passed NoPrice f = absurd (omega (arith, nothing-apart p s f))
-    go Passed (Price q) f =
+    go : (w : Verdict) (price : ClearingPrice) → against_by w price c c' ≡ Applies p s → Known no_fault w price c c' p s
+    go (Err n) price f = absurd (omega (arith, second-apart n p s f))
+    go (Ok u) None f = absurd (omega (arith, nothing-apart p s f))
+    go (Ok u) (Some q) f =
         let r = compared_same q.0 c c' p s f in
         let at : q.0 ≡ p = sym r.1.0 in
         record {
           accepted = refl;
           accepted' = refl;
-          priced = λ i. Price (record { 0 = at i });
+          priced = λ i. Some (record { 0 = at i });
           same = subst (λ (a : ℕ). SameToPrice a c c') at r.0;
           count = r.1.1 ∙ ap (λ (a : ℕ). length (at_or_below a c.offers)) at;
         }
@@ -122,9 +121,9 @@ module _ (κs : Lfts 2) (first second : Bor (List ℕ)) (r : Comparison)
   -- REQUEST 05. And then two calls on these books sell the same.
   pub compare-losers : (p shared : ℕ) → r ≡ Applies p shared
       → (κs₁ κs₂ : Lfts 3) (cleared₀ committed₀ cleared₁ committed₁ : MutBor (List ℕ)) (k : Clearing)
-      → Called κs₁ first cleared₀ committed₀ cleared₁ committed₁ (Answer-as-Cleared k)
+      → Called κs₁ first cleared₀ committed₀ cleared₁ committed₁ (Ok k)
       → (cleared₀' committed₀' cleared₁' committed₁' : MutBor (List ℕ)) (k' : Clearing)
-      → Called κs₂ second cleared₀' committed₀' cleared₁' committed₁' (Answer-as-Cleared k')
+      → Called κs₂ second cleared₀' committed₀' cleared₁' committed₁' (Ok k')
       → SameSale p (contents_of b) (contents_of b') k k' cleared₁.now committed₁.now cleared₁'.now committed₁'.now
   compare-losers p shared e κs₁ κs₂ cleared₀ committed₀ cleared₁ committed₁ k called cleared₀' committed₀' cleared₁' committed₁' k' called' =
       let t = (compare-applies p shared).0 e in

@@ -6,19 +6,19 @@ mod same;
 mod walk;
 
 ghost use Rattle.std.specs.Prelude.{◌≡◌};
-ghost use Rattle.values.specs.declared.Verdict.TheVariants.{Passed};
 ghost use Rattle.layout.specs.Read.{contents_of};
 ghost use Rattle.book.specs.Faults.{first_fault};
 ghost use Rattle.compare.specs.Comparison.{comparison_of, against_by, compared_to};
+ghost use Rattle.values.specs.Refusals.{no_fault};
 
 use crate::same::field_apart;
 use crate::walk::compare_offers;
 use block::SIZE;
 use book::verdict;
-use call::{Answer, quote};
+use call::quote;
 use layout::reader::offer_count;
-use pricing::ClearingPrice;
-use values::Verdict;
+use units::CentsPerMwDay;
+use values::Refusal;
 use values::head::parameters_in;
 
 // What a comparison of two books says. Rows count from 0.
@@ -26,9 +26,9 @@ use values::head::parameters_in;
 pub enum Comparison {
     // the theorem applies: the first book's price, and how many offers at or below it both books share
     Applies(u32, u32),
-    // a book is refused: the number and the place
-    FirstRefused(u32, u32),
-    SecondRefused(u32, u32),
+    // a book is refused
+    FirstRefused(Refusal),
+    SecondRefused(Refusal),
     // nothing clears in the first book, so that it has no price
     NothingClears,
     // the parameters differ: the first field that does
@@ -42,14 +42,14 @@ pub enum Comparison {
 
 // Compares two accepted books up to a price.
 fn compare_to(price: u32, first: &[u8], second: &[u8]) -> Comparison
-    requires { (first_fault first.now ≡ Passed) × (first_fault second.now ≡ Passed) }
+    requires { (first_fault first.now ≡ no_fault) × (first_fault second.now ≡ no_fault) }
     ensures { result ≡ compared_to price (contents_of first.now) (contents_of second.now) }
 {
-    let field = field_apart(
+    let apart = field_apart(
         parameters_in(&first[0..SIZE]),
         parameters_in(&second[0..SIZE]),
     );
-    if field != 0 {
+    if let Some(field) = apart {
         return Comparison::ParametersDiffer(field);
     }
     compare_offers(
@@ -62,16 +62,16 @@ fn compare_to(price: u32, first: &[u8], second: &[u8]) -> Comparison
 }
 
 // Compares an accepted book, of which the price is known, with another.
-fn compare_against(price: ClearingPrice, first: &[u8], second: &[u8]) -> Comparison
-    requires { first_fault first.now ≡ Passed }
+fn compare_against(price: Option<CentsPerMwDay>, first: &[u8], second: &[u8]) -> Comparison
+    requires { first_fault first.now ≡ no_fault }
     ensures { result ≡ against_by (first_fault second.now) price (contents_of first.now) (contents_of second.now) }
 {
-    if let Verdict::Refused(number, place) = verdict(second) {
-        return Comparison::SecondRefused(number, place);
+    if let Err(refusal) = verdict(second) {
+        return Comparison::SecondRefused(refusal);
     }
     match price {
-        ClearingPrice::Price(cents) => compare_to(cents.0, first, second),
-        ClearingPrice::NoPrice => Comparison::NothingClears,
+        Some(cents) => compare_to(cents.0, first, second),
+        None => Comparison::NothingClears,
     }
 }
 
@@ -80,10 +80,7 @@ pub fn compare(first: &[u8], second: &[u8]) -> Comparison
     ensures { result ≡ comparison_of first.now second.now }
 {
     match quote(first) {
-        Answer::Refused(number, place) => Comparison::FirstRefused(number, place),
-        Answer::Cleared(c) => {
-            let price = c.price;
-            compare_against(price, first, second)
-        }
+        Err(refusal) => Comparison::FirstRefused(refusal),
+        Ok(c) => compare_against(c.price, first, second),
     }
 }

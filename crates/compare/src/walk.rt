@@ -9,7 +9,6 @@ ghost use Rattle.compare.specs.Comparison.{offers_compared};
 ghost use Rattle.compare.specs.inner.Walk.{HasRow, NextTo};
 
 use crate::Comparison;
-use crate::same::same_offer;
 use layout::reader::{edition, row_bytes};
 use values::Value;
 use values::place::{Offer, offer_in};
@@ -37,14 +36,10 @@ fn next_row(price: u32, book: &[u8], n: usize, from: usize) -> usize
     requires { Inside book.now 1 n × (from ≤ n) }
     ensures { NextTo price (row_offers book.now (edition_of book.now) 1 n) from result }
 {
-    let mut row = from;
-    while row < n {
-        let o = offer_at(book, row);
-        let asked = o.price;
-        if to_price(asked, price) {
+    for row in from..n {
+        if to_price(offer_at(book, row).price, price) {
             return row;
         }
-        row += 1;
     }
     n
 }
@@ -55,10 +50,11 @@ fn same_rows(first: &[u8], i: usize, second: &[u8], j: usize) -> bool
     ensures { result ≡ same_offer (row_offer first.now (edition_of first.now) 1 i)
         (row_offer second.now (edition_of second.now) 1 j) }
 {
-    same_offer(offer_at(first, i), offer_at(second, j))
+    offer_at(first, i) == offer_at(second, j)
 }
 
 // Compares the offers at or below the price of two books, of n rows and of m.
+// A walk of two sides, which ends where either does: each side goes on from its own row, so no one range counts them.
 pub(crate) fn compare_offers(
     price: u32,
     first: &[u8],

@@ -23,9 +23,9 @@ awarded-alone k₁ k₂ k₃ k₄ k₅ entry n spare exit other a b =
     (λ l. a.within i l ∙ sym (b.within i l)))
 
 -- the standings, by the contract of `award`
-pub award-decided : (κs : Lfts 6) (k₁ k₂ k₃ k₄ k₅ : Bor (List ℕ)) (standings after other : MutBor (List ℕ)) (n spare : ℕ)
-    → award.Post κs (k₁, (k₂, (k₃, (k₄, (k₅, (standings, (n, (spare, tt)))))))) tt (k₁, (k₂, (k₃, (k₄, (k₅, (after, (n, (spare, tt))))))))
-    → award.Post κs (k₁, (k₂, (k₃, (k₄, (k₅, (standings, (n, (spare, tt)))))))) tt (k₁, (k₂, (k₃, (k₄, (k₅, (other, (n, (spare, tt))))))))
+pub award-decided : (κs : Lfts 6) (k₁ k₂ k₃ k₄ k₅ : Bor (List ℕ)) (standings after other : MutBor (List ℕ)) (spare : ℕ)
+    → award.Post κs (k₁, (k₂, (k₃, (k₄, (k₅, (standings, (spare, tt))))))) tt (k₁, (k₂, (k₃, (k₄, (k₅, (after, (spare, tt)))))))
+    → award.Post κs (k₁, (k₂, (k₃, (k₄, (k₅, (standings, (spare, tt))))))) tt (k₁, (k₂, (k₃, (k₄, (k₅, (other, (spare, tt)))))))
     → after.now ≡ other.now
-award-decided κs k₁ k₂ k₃ k₄ k₅ standings after other n spare e f =
-    awarded-alone k₁.now k₂.now k₃.now k₄.now k₅.now standings.now n spare after.now other.now e f
+award-decided κs k₁ k₂ k₃ k₄ k₅ standings after other spare e f =
+    awarded-alone k₁.now k₂.now k₃.now k₄.now k₅.now standings.now _ spare after.now other.now e f

@@ -8,10 +8,9 @@ use mathlib.Core.List.{List, ◌++◌}
 use Prim.Native.Nat.{ℕ, ◌≤◌, ◌<◌}
 use lib.ListN.{length, take, drop}
 use lib.Seq.{take-append_seam}
+use Rattle.std.specs.Prelude.{Err}
 use Rattle.block.specs.Bytes.{byte}
-use Rattle.values.specs.Refusals.{buffer_by}
-use Rattle.values.specs.declared.Verdict.{Verdict}
-use Rattle.values.specs.declared.Verdict.TheVariants.{Passed, Refused}
+use Rattle.values.specs.Refusals.{number_of, place_of, buffer_by, Verdict, no_fault}
 use Rattle.values.proofs.Firsts.{and_then-left, and_then-right}
 use Rattle.layout.specs.Read.{contents_of}
 use Rattle.book.specs.Faults.{first_fault, sound_fault}
@@ -21,23 +20,24 @@ use Rattle.plain.specs.declared.structs.OzpText.{OzpText}
 use Rattle.words.specs.Texts.{text_given, text_refused, text_by}
 use Rattle.convert.specs.Converted.{Converted}
 use Rattle.words.proofs.Answered.{refused-by, passed-by}
+use Rattle.values.specs.declared.refusal.Refusal.{Refusal}
 
 module _ (b room : List ℕ) {r : OzpText} {room' : List ℕ} (k : Converted b room r room') where
   -- Where the table refuses, the call does, by the same number at the same place, and leaves the room as it was.
-  pub convert-refused : (number place : ℕ) → convert_fault b (length room) ≡ Refused number place
-      → (r ≡ text_refused number place) × (room' ≡ room)
-  convert-refused number place e = (
+  pub convert-refused : (refusal : Refusal) → convert_fault b (length room) ≡ Err refusal
+      → (r ≡ text_refused (number_of refusal) (place_of refusal)) × (room' ≡ room)
+  convert-refused refusal e = (
     k.answered ∙ ap (λ (v : Verdict). text_by v (text_given (length (converted b)))) e,
     k.room-holds ∙ ap (λ (v : Verdict). buffer_by v room (converted b ++ drop (length (converted b)) room)) e,
   )
 
   -- Where the call refuses, the table does.
-  pub convert-refused-only : (number place : ℕ) → r ≡ text_refused number place → convert_fault b (length room) ≡ Refused number place
-  convert-refused-only number place e =
-      refused-by (convert_fault b (length room)) (length (converted b)) number place (sym k.answered ∙ e)
+  pub convert-refused-only : (refusal : Refusal) → r ≡ text_refused (number_of refusal) (place_of refusal) → convert_fault b (length room) ≡ Err refusal
+  convert-refused-only refusal e =
+      refused-by (convert_fault b (length room)) (length (converted b)) refusal (sym k.answered ∙ e)
 
   -- Where the table refuses nothing, the call converts.
-  pub convert-passed : convert_fault b (length room) ≡ Passed
+  pub convert-passed : convert_fault b (length room) ≡ no_fault
       → (r ≡ text_given (length (converted b))) × (room' ≡ converted b ++ drop (length (converted b)) room)
   convert-passed e = (
     k.answered ∙ ap (λ (v : Verdict). text_by v (text_given (length (converted b)))) e,
@@ -46,17 +46,17 @@ module _ (b room : List ℕ) {r : OzpText} {room' : List ℕ} (k : Converted b r
 
   module _ (done : r.kind ≡ 1) where
     -- Where the call converted, the table refuses nothing:
-    pub convert-passed-only : convert_fault b (length room) ≡ Passed
+    pub convert-passed-only : convert_fault b (length room) ≡ no_fault
     convert-passed-only =
         passed-by (convert_fault b (length room)) (length (converted b)) (sym (ap (λ (t : OzpText). t.kind) k.answered) ∙ done)
 
     -- the book is sound,
-    pub convert-sound : sound_fault b ≡ Passed
+    pub convert-sound : sound_fault b ≡ no_fault
     unfolding convert_fault
     convert-sound = and_then-left (sound_fault b) _ convert-passed-only
 
     -- and 11 does not refuse it.
-    pub convert-down : down_fault (contents_of b) ≡ Passed
+    pub convert-down : down_fault (contents_of b) ≡ no_fault
     unfolding convert_fault
     convert-down = and_then-left (down_fault (contents_of b)) _ (and_then-right (sound_fault b) _ convert-passed-only)
 
@@ -74,7 +74,7 @@ module _ (b room : List ℕ) {r : OzpText} {room' : List ℕ} (k : Converted b r
           ∙ converted-length b bytes convert-sound convert-down
 
       -- They are a sound book,
-      pub converted-is-sound : sound_fault (take r.bytes room') ≡ Passed
+      pub converted-is-sound : sound_fault (take r.bytes room') ≡ no_fault
       converted-is-sound = ap sound_fault converted-bytes ∙ converted-sound b bytes convert-sound convert-down
 
       -- which says what the book says, missing values missing, in the other edition,

@@ -13,9 +13,8 @@ use borrow.Author.Tests.{le-leb, lt-leb, leb-true, eq-eqb}
 use Rattle.laws.proofs.Cases.{cond-true}
 use Rattle.block.specs.Bytes.{byte}
 use Rattle.values.specs.Contents.{Contents, offer_at}
-use Rattle.values.specs.Refusals.{several_steps, short_room, unless, first}
-use Rattle.values.specs.declared.Verdict.{Verdict}
-use Rattle.values.specs.declared.Verdict.TheVariants.{Passed, Refused}
+use Rattle.values.specs.declared.refusal.Refusal.TheVariants.{SeveralSteps}
+use Rattle.values.specs.Refusals.{several_steps, short_room, unless, first, Verdict, no_fault}
 use Rattle.values.specs.declared.place.Offer.{Offer}
 use Rattle.values.proofs.Firsts.{unless-true, unless-false, unless-passed, and_then-next, and_then-right, first-at, first-all}
 use Rattle.layout.specs.Form.{form_fault}
@@ -36,16 +35,16 @@ use Rattle.convert.proofs.Other.{by-edition, other-other, other_fits, other-said
 abbrev pub one_step : List Offer → ℕ → Verdict
 one_step offers row = unless (leb (offer_at offers row).step 1) (several_steps row)
 
-pub row-passed : (offers : List Offer) (row : ℕ) → (offer_at offers row).step ≤ 1 → one_step offers row ≡ Passed
+pub row-passed : (offers : List Offer) (row : ℕ) → (offer_at offers row).step ≤ 1 → one_step offers row ≡ no_fault
 row-passed offers row l = unless-true (leb (offer_at offers row).step 1) (several_steps row) (le-leb (offer_at offers row).step 1 l)
 
-pub row-refused : (offers : List Offer) (row : ℕ) → 2 ≤ (offer_at offers row).step → one_step offers row ≡ Refused 11 row
+pub row-refused : (offers : List Offer) (row : ℕ) → 2 ≤ (offer_at offers row).step → one_step offers row ≡ several_steps row
 row-refused offers row l =
     let step = (offer_at offers row).step in
     let over : 1 < step = omega (arith, l) in
     unless-false (leb step 1) (several_steps row) (lt-leb step 1 over)
 
-pub down-one : (c : Contents) → c.edition ≡ 1 → down_fault c ≡ Passed
+pub down-one : (c : Contents) → c.edition ≡ 1 → down_fault c ≡ no_fault
 unfolding down_fault
 down-one c one = cond-true _ _ _ (eq-eqb c.edition 1 one)
 
@@ -53,7 +52,7 @@ pub down-two : (c : Contents) → c.edition ≡ 2 → down_fault c ≡ first (on
 unfolding down_fault steps_fault
 down-two c two = rw two refl
 
-module _ (b : List ℕ) (bytes : (i : ℕ) → i < length b → byte b i < 256) (sound : sound_fault b ≡ Passed) where
+module _ (b : List ℕ) (bytes : (i : ℕ) → i < length b → byte b i < 256) (sound : sound_fault b ≡ no_fault) where
   abbrev c : Contents
   c = contents_of b
 
@@ -64,16 +63,16 @@ module _ (b : List ℕ) (bytes : (i : ℕ) → i < length b → byte b i < 256) 
   pub read-few : length c.offers ≤ 600
   read-few = fits.few
 
-  module _ (down : down_fault (contents_of b) ≡ Passed) where
+  module _ (down : down_fault (contents_of b) ≡ no_fault) where
     -- every step is 1
     pub ones : (row : ℕ) → row < length c.offers → (offer_at c.offers row).step ≡ 1
     ones row l =
         by-edition c.edition fits.edition
         (λ one. (fits.steps row l).one one)
         (λ two.
-        let all : first (one_step c.offers) (length c.offers) ≡ Passed = sym (down-two c two) ∙ down in
+        let all : first (one_step c.offers) (length c.offers) ≡ no_fault = sym (down-two c two) ∙ down in
         let most : (offer_at c.offers row).step ≤ 1 =
-        leb-true _ 1 (unless-passed _ 11 row (first-at (one_step c.offers) (length c.offers) row all l)) in
+        leb-true _ 1 (unless-passed _ (SeveralSteps row) (first-at (one_step c.offers) (length c.offers) row all l)) in
         omega (arith, most, (sound-offers b sound row l).step_from))
 
     -- It says what the book says, in the other edition.
@@ -81,12 +80,12 @@ module _ (b : List ℕ) (bytes : (i : ℕ) → i < length b → byte b i < 256) 
     unfolding converted
     converted-said = other-said c fits ones
 
-    converted-form : form_fault (converted b) ≡ Passed
+    converted-form : form_fault (converted b) ≡ no_fault
     unfolding converted
     converted-form = encode-form (in_other c) (other_fits c fits ones)
 
     -- It is sound.
-    pub converted-sound : sound_fault (converted b) ≡ Passed
+    pub converted-sound : sound_fault (converted b) ≡ no_fault
     unfolding sound_fault in_other
     converted-sound =
         and_then-next (form_fault (converted b)) _ converted-form
@@ -118,7 +117,7 @@ module _ (b : List ℕ) (bytes : (i : ℕ) → i < length b → byte b i < 256) 
         ∙ encode-read b bytes (sound-form b sound)
 
     -- 11 does not refuse it
-    back-down : down_fault (contents_of (converted b)) ≡ Passed
+    back-down : down_fault (contents_of (converted b)) ≡ no_fault
     unfolding in_other
     back-down =
         ap down_fault converted-said
@@ -129,7 +128,7 @@ module _ (b : List ℕ) (bytes : (i : ℕ) → i < length b → byte b i < 256) 
         (λ two. down-one (in_other c) (rw two refl))
 
     -- and nothing else does, where there is room for as many bytes.
-    pub converted-back-passes : (room : ℕ) → length b ≤ room → convert_fault (converted b) room ≡ Passed
+    pub converted-back-passes : (room : ℕ) → length b ≤ room → convert_fault (converted b) room ≡ no_fault
     unfolding convert_fault
     converted-back-passes room long =
         and_then-next (sound_fault (converted b)) _ converted-sound

@@ -7,7 +7,6 @@ use Prim.Native.Nat.{ℕ, ◌≤◌, ◌<◌}
 use lib.ListN.{length, drop}
 use Rattle.block.specs.Bytes.{byte}
 use Rattle.values.specs.Contents.{Contents, offer_at}
-use Rattle.values.specs.declared.Verdict.TheVariants.{Passed}
 use Rattle.layout.specs.Read.{contents_of}
 use Rattle.layout.proofs.Contained.{contents-count}
 use Rattle.layout.proofs.Passing.{form-passed-blocks}
@@ -23,9 +22,10 @@ use Rattle.writer.proofs.Books.{room-made}
 use Rattle.convert.specs.Convert.{other_edition, in_other, down_fault, converted}
 use Rattle.convert.specs.inner.Converts.{other_made}
 use Rattle.convert.proofs.Converted.{ones}
+use Rattle.values.specs.Refusals.{no_fault}
 
-module _ (b : List ℕ) (bytes : (i : ℕ) → i < length b → byte b i < 256) (sound : sound_fault b ≡ Passed)
-    (down : down_fault (contents_of b) ≡ Passed) where
+module _ (b : List ℕ) (bytes : (i : ℕ) → i < length b → byte b i < 256) (sound : sound_fault b ≡ no_fault)
+    (down : down_fault (contents_of b) ≡ no_fault) where
   abbrev c : Contents
   c = contents_of b
 
@@ -33,7 +33,7 @@ module _ (b : List ℕ) (bytes : (i : ℕ) → i < length b → byte b i < 256) 
   e = other_edition c.edition
 
   -- the offers pass the tests of rows in the other edition too
-  rows_pass : rows_fault false e (offer_at c.offers) (length c.offers) ≡ Passed
+  rows_pass : rows_fault false e (offer_at c.offers) (length c.offers) ≡ no_fault
   rows_pass =
       rows-any-edition false e c.edition (offer_at c.offers) (length c.offers) (ones b bytes sound down)
       ∙ sound-rows b sound

@@ -11,11 +11,11 @@ use native.Mathlib.Omega.{arith}
 use lib.Dec.{eqb, leb}
 use lib.ListN.{length}
 use borrow.Author.Tests.{leb-true}
+use Rattle.std.specs.Prelude.{Err, Ok}
 use Rattle.laws.proofs.Cases.{by_order}
 use Rattle.values.specs.Contents.{Contents, offer_at}
-use Rattle.values.specs.Refusals.{wrong_layout, unless, and_then, first}
-use Rattle.values.specs.declared.Verdict.{Verdict}
-use Rattle.values.specs.declared.Verdict.TheVariants.{Passed, Refused}
+use Rattle.values.specs.declared.refusal.Refusal.TheVariants.{WrongLength, WrongCheck, WrongLayout, ParameterOutOfRange, OfferOutOfRange, RepeatedResource, BrokenSteps, SeveralSteps, ShortRoom}
+use Rattle.values.specs.Refusals.{number_of, several_steps, parameter_out_of_range, wrong_layout, unless, and_then, first, Verdict, no_fault}
 use Rattle.values.specs.declared.head.Parameters.{Parameters}
 use Rattle.values.specs.declared.place.Offer.{Offer}
 use Rattle.values.proofs.Firsts.{unless-passed, and_then-next, and_then-refused, first-zero, first-suc, first-at, first-all, first-refused}
@@ -38,34 +38,31 @@ use Rattle.book.proofs.Accepted.{sound-form}
 use Rattle.convert.specs.Convert.{down_fault, converted, convert_fault, FirstOfSeveral}
 use Rattle.convert.proofs.Converted.{one_step, row-passed, row-refused, down-one, down-two}
 use Rattle.convert.proofs.Other.{by-edition}
+use Rattle.values.specs.declared.refusal.Refusal.{Refusal}
 
 -- ---- tests that never refuse by 11
 
--- a number for each verdict: 0 for one that passed, and one more than the number for a refusal
+-- a number for each verdict: 0 for one that passed, and the number of a refusal
 abbrev numbered : Verdict → ℕ
-numbered Passed = 0
-numbered (Refused number place) = suc number
-
-abbrev place_of : Verdict → ℕ
-place_of Passed = 0
-place_of (Refused number place) = place
+numbered (Ok u) = 0
+numbered (Err refusal) = number_of refusal
 
 abbrev NotEleven : Verdict → Type 0
-NotEleven v = (place : ℕ) → v ≡ Refused 11 place → ⊥
+NotEleven v = (row : ℕ) → v ≡ several_steps row → ⊥
 
-passes : NotEleven Passed
-passes place e = omega (arith, ap numbered e)
+passes : NotEleven no_fault
+passes row e = omega (arith, ap numbered e)
 
-refuses : (number place : ℕ) → (number ≡ 11 → ⊥) → NotEleven (Refused number place)
-refuses number place other at e = other (omega (arith, ap numbered e))
+refuses : (refusal : Refusal) → (number_of refusal ≡ 11 → ⊥) → NotEleven (Err refusal)
+refuses refusal other at e = other (ap numbered e)
 
-unless_not : (t : Bool) (number place : ℕ) → (number ≡ 11 → ⊥) → NotEleven (unless t (Refused number place))
-unless_not true number place other = passes
-unless_not false number place other = refuses number place other
+unless_not : (t : Bool) (refusal : Refusal) → (number_of refusal ≡ 11 → ⊥) → NotEleven (unless t (Err refusal))
+unless_not true refusal other = passes
+unless_not false refusal other = refuses refusal other
 
 then-not : (v w : Verdict) → NotEleven v → NotEleven w → NotEleven (and_then v w)
-then-not Passed w f g = g
-then-not (Refused number place) w f g = f
+then-not (Ok u) w f g = g
+then-not (Err refusal) w f g = f
 
 first-not : (test : ℕ → Verdict) (n : ℕ) → ((i : ℕ) → NotEleven (test i)) → NotEleven (first test n)
 first-not test zero each = rw (first-zero test) passes
@@ -78,17 +75,17 @@ other-than number l e = omega (arith, l, e)
 
 length-not : (b : List ℕ) → NotEleven (length_fault b)
 unfolding length_fault
-length-not b = unless_not (eqb (length b % 512) 0 && (leb 512 (length b) && leb (length b) 20992)) 1 0 (other-than 1 (omega arith))
+length-not b = unless_not (eqb (length b % 512) 0 && (leb 512 (length b) && leb (length b) 20992)) WrongLength (other-than 1 (omega arith))
 
 check-not : (b : List ℕ) → NotEleven (check_fault b)
 unfolding check_fault
 check-not b =
-    first-not _ (block_count b) (λ k. unless_not (check_holds (block_of b k)) 2 k (other-than 2 (omega arith)))
+    first-not _ (block_count b) (λ k. unless_not (check_holds (block_of b k)) (WrongCheck k) (other-than 2 (omega arith)))
 
 block-not : (b : List ℕ) (t : Section) (j : ℕ) → NotEleven (block_fault b t j)
 unfolding block_fault
 block-not b t j =
-    unless_not (rows_hold t (block_of b (t.first + j)) (t.number + j) (rows_here t.rows j)) 3 (t.number + j)
+    unless_not (rows_hold t (block_of b (t.first + j)) (t.number + j) (rows_here t.rows j)) (WrongLayout (t.number + j))
     (other-than 3 (omega arith))
 
 layout-not : (b : List ℕ) → NotEleven (layout_fault b)
@@ -96,7 +93,7 @@ unfolding layout_fault section_fault
 layout-not b =
     let t = offers_section b in
     then-not (unless (head_holds (block_of b 0) (block_count b)) (wrong_layout 0)) _
-    (unless_not (head_holds (block_of b 0) (block_count b)) 3 0 (other-than 3 (omega arith)))
+    (unless_not (head_holds (block_of b 0) (block_count b)) (WrongLayout 0) (other-than 3 (omega arith)))
     (first-not (block_fault b t) (blocks_for t.rows) (block-not b t))
 
 form-not : (b : List ℕ) → NotEleven (form_fault b)
@@ -106,8 +103,8 @@ form-not b = then-not (length_fault b) _ (length-not b) (then-not (check_fault b
 range-not : (p : Parameters) → NotEleven (range_fault p)
 unfolding range_fault
 range-not p =
-    let five : (t : Bool) (field : ℕ) → NotEleven (unless t (Refused 5 field)) =
-    λ t field. unless_not t 5 field (other-than 5 (omega arith)) in
+    let five : (t : Bool) (field : ℕ) → NotEleven (unless t (parameter_out_of_range field)) =
+    λ t field. unless_not t (ParameterOutOfRange field) (other-than 5 (omega arith)) in
     then-not _ _ (five (within 2022 2099 p.year) 1)
     (then-not _ _ (five (given_within 1 1000000 p.cost) 2)
     (then-not _ _ (five (given_within 0 (offset_most p.cost) p.offset) 3)
@@ -120,13 +117,13 @@ unfolding rows_fault offer_fault repeat_fault step_fault
 rows-not edition offers n =
     first-not _ n
     (λ row.
-    then-not _ _ (unless_not (offer_in_range edition (offers row)) 7 row (other-than 7 (omega arith)))
+    then-not _ _ (unless_not (offer_in_range edition (offers row)) (OfferOutOfRange row) (other-than 7 (omega arith)))
     (then-not _ _
-    (unless_not (no_repeat (λ r. (offers r).resource) (λ r. (offers r).step) row) 8 row (other-than 8 (omega arith)))
-    (unless_not (step_holds (offers (row - 1)) (offers row) row) 10 row (other-than 10 (omega arith)))))
+    (unless_not (no_repeat (λ r. (offers r).resource) (λ r. (offers r).step) row) (RepeatedResource row) (other-than 8 (omega arith)))
+    (unless_not (step_holds (offers (row - 1)) (offers row) row) (BrokenSteps row) (other-than 10 (omega arith)))))
 
 -- A book that is not sound is never refused by 11.
-pub sound-not-eleven : (b : List ℕ) (place : ℕ) → sound_fault b ≡ Refused 11 place → ⊥
+pub sound-not-eleven : (b : List ℕ) (place : ℕ) → sound_fault b ≡ several_steps place → ⊥
 unfolding sound_fault given_fault
 sound-not-eleven b =
     then-not (form_fault b) _ (form-not b)
@@ -135,60 +132,60 @@ sound-not-eleven b =
 
 -- ---- 11
 
-then_at : (v w : Verdict) (place : ℕ) → NotEleven v → and_then v w ≡ Refused 11 place → (v ≡ Passed) × (w ≡ Refused 11 place)
-then_at Passed w place f e = (refl, e)
-then_at (Refused number at) w place f e = absurd (f place e)
+then_at : (v w : Verdict) (place : ℕ) → NotEleven v → and_then v w ≡ several_steps place → (v ≡ no_fault) × (w ≡ several_steps place)
+then_at (Ok u) w place f e = (refl, e)
+then_at (Err refusal) w place f e = absurd (f place e)
 
 -- the second of two tests, where the third does not refuse by 11
-then-first : (v w : Verdict) (place : ℕ) → NotEleven w → and_then v w ≡ Refused 11 place → v ≡ Refused 11 place
-then-first Passed w place f e = absurd (f place e)
-then-first (Refused number at) w place f e = e
+then-first : (v w : Verdict) (place : ℕ) → NotEleven w → and_then v w ≡ several_steps place → v ≡ several_steps place
+then-first (Ok u) w place f e = absurd (f place e)
+then-first (Err refusal) w place f e = e
 
 -- the row that `first` refused at is the first with a step of 2 or more
-found : (c : Contents) → c.edition ≡ 2 → (i number place row : ℕ) → i < length c.offers → first (one_step c.offers) i ≡ Passed
-    → one_step c.offers i ≡ Refused number place → first (one_step c.offers) (length c.offers) ≡ Refused 11 row → FirstOfSeveral c row
-found c two i number place row l before at down =
+found : (c : Contents) → c.edition ≡ 2 → (i : ℕ) (refusal : Refusal) (row : ℕ) → i < length c.offers → first (one_step c.offers) i ≡ no_fault
+    → one_step c.offers i ≡ Err refusal → first (one_step c.offers) (length c.offers) ≡ several_steps row → FirstOfSeveral c row
+found c two i refusal row l before at down =
     let over : 2 ≤ (offer_at c.offers i).step =
     by_order (offer_at c.offers i).step 1
-    (λ low. absurd (omega (arith, ap numbered (sym at ∙ row-passed c.offers i low))))
+    (λ low. cc (sym at ∙ row-passed c.offers i low))
     (λ high. omega (arith, high)) in
     let same : i ≡ row =
-    ap place_of (sym (first-refused (one_step c.offers) (length c.offers) i 11 i l before (row-refused c.offers i over)) ∙ down) in
+    cc (sym (first-refused (one_step c.offers) (length c.offers) i (SeveralSteps i) l before (row-refused c.offers i over)) ∙ down) in
     rw (← same)
     record {
       edition = two;
       there = l;
       several = over;
-      before = λ earlier k. leb-true _ 1 (unless-passed _ 11 earlier (first-at (one_step c.offers) i earlier before k));
+      before = λ earlier k. leb-true _ 1 (unless-passed _ (SeveralSteps earlier) (first-at (one_step c.offers) i earlier before k));
     }
 
 module _ (b : List ℕ) (row : ℕ) where
   -- A sound book that goes down is refused by 11 at its first row with a step of 2 or more,
-  pub several-refused : sound_fault b ≡ Passed → FirstOfSeveral (contents_of b) row → (room : ℕ) → convert_fault b room ≡ Refused 11 row
+  pub several-refused : sound_fault b ≡ no_fault → FirstOfSeveral (contents_of b) row → (room : ℕ) → convert_fault b room ≡ several_steps row
   unfolding convert_fault
   several-refused sound f room =
       let c = contents_of b in
-      let down : down_fault c ≡ Refused 11 row =
+      let down : down_fault c ≡ several_steps row =
       down-two c f.edition
-      ∙ first-refused (one_step c.offers) (length c.offers) row 11 row f.there
+      ∙ first-refused (one_step c.offers) (length c.offers) row (SeveralSteps row) f.there
       (first-all (one_step c.offers) row (λ earlier l. row-passed c.offers earlier (f.before earlier l)))
       (row-refused c.offers row f.several) in
-      and_then-next (sound_fault b) _ sound ∙ and_then-refused (down_fault c) _ 11 row down
+      and_then-next (sound_fault b) _ sound ∙ and_then-refused (down_fault c) _ (SeveralSteps row) down
 
   -- and where converting is refused by 11, the book is sound and the row is that one.
-  pub several-only : (room : ℕ) → convert_fault b room ≡ Refused 11 row → (sound_fault b ≡ Passed) × FirstOfSeveral (contents_of b) row
+  pub several-only : (room : ℕ) → convert_fault b room ≡ several_steps row → (sound_fault b ≡ no_fault) × FirstOfSeveral (contents_of b) row
   unfolding convert_fault
   several-only room e =
       let c = contents_of b in
       let parts = then_at (sound_fault b) _ row (sound-not-eleven b) e in
-      let down = then-first (down_fault c) _ row (unless_not (leb (length (converted b)) room) 20 0 (λ (f : 20 ≡ 11). omega (arith, f))) parts.1 in
+      let down = then-first (down_fault c) _ row (unless_not (leb (length (converted b)) room) ShortRoom (λ (f : 20 ≡ 11). omega (arith, f))) parts.1 in
       (parts.0, told c (rw (contents-edition b) at (form-passed-edition b (sound-form b parts.0))) down)
     where
-      told : (c : Contents) → edition_known c.edition ≡ true → down_fault c ≡ Refused 11 row → FirstOfSeveral c row
+      told : (c : Contents) → edition_known c.edition ≡ true → down_fault c ≡ several_steps row → FirstOfSeveral c row
       told c known down =
           by-edition c.edition known
           (λ one. absurd (passes row (sym (down-one c one) ∙ down)))
           (λ two.
           by_first (one_step c.offers) (length c.offers)
           (λ all. absurd (passes row (sym all ∙ sym (down-two c two) ∙ down)))
-          (λ i number place l before at. found c two i number place row l before at (sym (down-two c two) ∙ down)))
+          (λ i refusal l before at. found c two i refusal row l before at (sym (down-two c two) ∙ down)))

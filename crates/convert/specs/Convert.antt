@@ -4,9 +4,7 @@
 -- Assumes nothing.
 use Rattle.std.specs.Prelude.{ℕ, ◌≤◌, ◌<◌, ◌≡◌, cond, List, eqb, leb, length}
 use Rattle.values.specs.Contents.{Contents, offer_at}
-use Rattle.values.specs.Refusals.{several_steps, short_room, unless, and_then, first}
-use Rattle.values.specs.declared.Verdict.{Verdict}
-use Rattle.values.specs.declared.Verdict.TheVariants.{Passed}
+use Rattle.values.specs.Refusals.{several_steps, short_room, unless, and_then, first, Verdict, no_fault}
 use Rattle.values.specs.declared.place.Offer.{Offer}
 use Rattle.layout.specs.Read.{contents_of}
 use Rattle.book.specs.Faults.{sound_fault}
@@ -30,7 +28,7 @@ steps_fault offers = first (λ row. unless (leb (offer_at offers row).step 1) (s
 
 -- tested of what goes down to edition 1, which has no steps
 unfoldable pub down_fault : Contents → Verdict
-down_fault c = cond (eqb c.edition 1) Passed (steps_fault c.offers)
+down_fault c = cond (eqb c.edition 1) no_fault (steps_fault c.offers)
 
 -- The first fault of a book that is to be converted into room of so many bytes: its own where it is not sound; 11; 20.
 unfoldable pub convert_fault : List ℕ → ℕ → Verdict

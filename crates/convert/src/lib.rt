@@ -3,14 +3,14 @@
 #![tactic(auto)]
 
 ghost use Rattle.std.specs.Prelude.{◌≡◌, cond, ◌≤◌, eqb, length};
-ghost use Rattle.values.specs.declared.Verdict.TheVariants.{Passed};
 ghost use Rattle.layout.specs.Read.{row_offers, contents_of};
 ghost use Rattle.layout.specs.inner.Read.{Inside};
 ghost use Rattle.book.specs.Faults.{sound_fault};
 ghost use Rattle.places.specs.inner.Rows.{put_rows};
-ghost use Rattle.convert.specs.Convert.{other_edition, steps_fault};
+ghost use Rattle.convert.specs.Convert.{other_edition, steps_fault, convert_fault};
 ghost use Rattle.convert.specs.Converted.{Converted};
 ghost use Rattle.convert.specs.inner.Converts.{own_fault, other_made};
+ghost use Rattle.values.specs.Refusals.{no_fault};
 
 use block::SIZE;
 use book::soundness;
@@ -18,7 +18,7 @@ use layout::reader::{edition, offer_count, row_bytes};
 use making::{put_book, put_zeros};
 use places::place::put_row;
 use plain::structs::OzpText;
-use values::Verdict;
+use values::Refusal;
 use values::head::parameters_in;
 use values::place::offer_in;
 use words::{given, refused};
@@ -31,19 +31,17 @@ fn other_edition(edition: u32) -> u32
 }
 
 // 11: the first of n rows of a book of this edition that has a step of 2 or more.
-fn steps_fault(book: &[u8], edition: u32, n: u32) -> Verdict
+fn steps_fault(book: &[u8], edition: u32, n: u32) -> Result<(), Refusal>
     requires { Inside book.now 1 n }
     ensures { result ≡ steps_fault (row_offers book.now edition 1 n) }
 {
-    let mut row: u32 = 0;
-    while row < n {
+    for row in 0..n {
         let o = offer_in(row_bytes(book, 1, row as usize), edition);
         if 1 < o.step {
-            return Verdict::Refused(11, row);
+            return Err(Refusal::SeveralSteps(row));
         }
-        row += 1;
     }
-    Verdict::Passed
+    Ok(())
 }
 
 // Puts n rows of a book of this edition into their places of a book of the other, which has as many bytes.
@@ -57,29 +55,27 @@ fn put_rows(book: &[u8], edition: u32, other: u32, n: usize, room: &mut [u8])
 }
 
 // 11, of a book of edition 2.
-fn down_fault(book: &[u8], edition: u32, n: u32) -> Verdict
+fn down_fault(book: &[u8], edition: u32, n: u32) -> Result<(), Refusal>
     requires { Inside book.now 1 n }
-    ensures { result ≡ cond (eqb edition 1) Passed (steps_fault (row_offers book.now edition 1 n)) }
+    ensures { result ≡ cond (eqb edition 1) no_fault (steps_fault (row_offers book.now edition 1 n)) }
 {
     if edition == 1 {
-        return Verdict::Passed;
+        return Ok(());
     }
     steps_fault(book, edition, n)
 }
 
 // Why a book cannot be converted: its own fault where it is not sound, and then 11.
-fn own_fault(book: &[u8]) -> Verdict
+fn own_fault(book: &[u8]) -> Result<(), Refusal>
     ensures { result ≡ own_fault book.now }
 {
-    if let Verdict::Refused(number, place) = soundness(book) {
-        return Verdict::Refused(number, place);
-    }
+    soundness(book)?;
     down_fault(book, edition(book), offer_count(book))
 }
 
 // Makes a sound book in the other edition, in room whose first block is cleared.
 fn put_other(book: &[u8], room: &mut [u8])
-    requires { (sound_fault book.now ≡ Passed) × (length book.now ≤ length room.old) }
+    requires { (sound_fault book.now ≡ no_fault) × (length book.now ≤ length room.old) }
     ensures { room.new ≡ other_made (contents_of book.now) room.old }
 {
     let own = edition(book);
@@ -89,18 +85,25 @@ fn put_other(book: &[u8], room: &mut [u8])
     put_book(room, other, parameters_in(&book[0..SIZE]), n);
 }
 
+// Why a book cannot be converted into a room: its own fault, and then 20.
+fn convert_fault(book: &[u8], room: &[u8]) -> Result<(), Refusal>
+    ensures { result ≡ convert_fault book.now (length room.now) }
+{
+    own_fault(book)?;
+    if room.len() < book.len() {
+        return Err(Refusal::ShortRoom);
+    }
+    Ok(())
+}
+
 // Converts a book into the room, where nothing refuses it: in the other edition it has as many bytes.
 pub fn put_converted(book: &[u8], room: &mut [u8]) -> OzpText
     ensures { Converted book.now room.old result room.new }
 {
-    if let Verdict::Refused(number, place) = own_fault(book) {
-        return refused(number, place);
-    }
-    let bytes = book.len();
-    if room.len() < bytes {
-        return refused(20, 0);
+    if let Err(refusal) = convert_fault(book, room) {
+        return refused(refusal.number(), refusal.place());
     }
     put_zeros(room, 0, SIZE);
     put_other(book, room);
-    given(bytes as u64)
+    given(book.len() as u64)
 }

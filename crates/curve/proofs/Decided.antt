@@ -4,12 +4,12 @@ use mathlib.Core.Path.{◌≡◌, sym, ◌∙◌}
 use Prim.Native.Nat.{ℕ}
 use Rattle.units.specs.declared.CentsPerMwDay.{CentsPerMwDay}
 use Rattle.curve.specs.declared.Curve.{Curve}
-use Rattle.curve.specs.declared.exact.ExactCurvePrice.{ExactCurvePrice}
 use Rattle.curve.specs.declared.Terms.{Terms}
 use Rattle.curve.specs.declared.Weights.{Weights}
 use Rattle.curve.proofs.points.Reads as points
 use Rattle.curve.proofs.tenth_price.Reads as tenth-price
 use Rattle.curve.proofs.exact.price_at.Reads as price-at
+use Rattle.curve.specs.Exact.{ExactCurvePrice}
 
 -- the points, by the contract of `points`
 pub points-decided : (w : Weights) (whole : ℕ) (t : Terms) (r s : Curve)

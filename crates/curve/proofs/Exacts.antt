@@ -9,11 +9,10 @@ use native.Mathlib.Nat.{zero-add, mul-zero, sub_self, div-add-mod', mod-lt, mul-
 use native.Mathlib.Omega.{arith}
 use lib.Dec.{leb}
 use borrow.Author.Tests.{le-leb, lt-leb}
+use Rattle.std.specs.Prelude.{Some, None}
 use Rattle.laws.proofs.Cases.{by_order, by-test, cond-true, cond-false}
 use Rattle.curve.specs.declared.Curve.{Curve}
-use Rattle.curve.specs.declared.CurvePrice.TheVariants.{Price as CurvePrice-as-Price}
 use Rattle.curve.specs.declared.exact.ExactPrice.{ExactPrice}
-use Rattle.curve.specs.declared.exact.ExactCurvePrice.TheVariants.{Price, NoPrice}
 use Rattle.curve.specs.Price.{line, tenth_price, curve_price}
 use Rattle.curve.specs.Exact.{line_numerator, exact_line, whole_cents, exact_price, exact_curve_price, numerator, cents_said}
 use Rattle.curve.specs.Shape.{Shaped}
@@ -31,12 +30,12 @@ unfolding exact_price
 exact-first c k a u = cond-false _ _ _ (lt-leb k c.q1 a) ∙ cond-true _ _ _ (le-leb k c.q2 u)
 
 -- up to Q3 the curve answers with that price
-pub exact-within : (c : Curve) (k : ℕ) (e : ExactPrice) → k ≤ c.q3 → e ≡ exact_price c k → Price e ≡ exact_curve_price c k
+pub exact-within : (c : Curve) (k : ℕ) (e : ExactPrice) → k ≤ c.q3 → e ≡ exact_price c k → Some e ≡ exact_curve_price c k
 unfolding exact_curve_price
-exact-within c k e h same = ap Price same ∙ sym (cond-true _ _ _ (le-leb k c.q3 h))
+exact-within c k e h same = ap Some same ∙ sym (cond-true _ _ _ (le-leb k c.q3 h))
 
 -- past Q3 the curve says that there is none between cents either
-pub no-exact-past : (c : Curve) (k : ℕ) → c.q3 < k → exact_curve_price c k ≡ NoPrice
+pub no-exact-past : (c : Curve) (k : ℕ) → c.q3 < k → exact_curve_price c k ≡ None
 unfolding exact_curve_price
 no-exact-past c k h = cond-false _ _ _ (lt-leb k c.q3 h)
 
@@ -53,7 +52,7 @@ pub exact-said : (c : Curve) (k : ℕ) → cents_said (exact_curve_price c k) �
 unfolding exact_curve_price curve_price
 exact-said c k =
     by-test (leb k c.q3)
-    (λ t. rw t (ap (λ (x : ℕ). CurvePrice-as-Price (record { 0 = x })) (exact-cents c k)))
+    (λ t. rw t (ap (λ (x : ℕ). Some (record { 0 = x })) (exact-cents c k)))
     (λ t. rw t)
 
 -- on a line, cents times divisor plus remainder is the line's exact numerator

@@ -8,11 +8,11 @@ use Prim.Native.Nat.{ℕ, ◌≤◌, ◌<◌}
 use native.Mathlib.Nat.{le_refl, le_trans, le_antisymm}
 use native.Mathlib.Omega.{arith}
 use borrow.Author.Tests.{le-leb, lt-leb}
+use Rattle.std.specs.Prelude.{None}
 use Rattle.laws.proofs.Cases.{by_order, cond-true, cond-false}
 use Rattle.laws.proofs.Pieces.{FallsFrom, falls-joined}
 use Rattle.auction.specs.Offers.{Falling}
 use Rattle.curve.specs.declared.Curve.{Curve}
-use Rattle.curve.specs.declared.CurvePrice.TheVariants.{NoPrice}
 use Rattle.curve.specs.Price.{line, tenth_price, curve_price, demand_of}
 use Rattle.curve.specs.Shape.{Shaped}
 use Rattle.curve.proofs.Lines.{line-falls, line-start, line-end, line-past}
@@ -23,7 +23,7 @@ unfolding tenth_price
 price-level c k h = cond-true _ _ _ (le-leb k c.q1 h)
 
 -- past Q3 the curve says that it has none
-pub no-price-past : (c : Curve) (k : ℕ) → c.q3 < k → curve_price c k ≡ NoPrice
+pub no-price-past : (c : Curve) (k : ℕ) → c.q3 < k → curve_price c k ≡ None
 unfolding curve_price
 no-price-past c k h = cond-false _ _ _ (lt-leb k c.q3 h)
 

@@ -2,15 +2,16 @@
 --
 -- In order: the price on a line, at a quantity, and past Q3; what such a price comes to, and how two compare as fractions.
 -- Assumes nothing.
-use Rattle.std.specs.Prelude.{◌≡◌, ℕ, ◌+◌, ◌-◌, ◌*◌, ◌%◌, ◌≤◌, cond, leb}
+use Rattle.std.specs.Prelude.{◌≡◌, ℕ, ◌+◌, ◌-◌, ◌*◌, ◌%◌, ◌≤◌, cond, leb, Some, None}
 use Rattle.units.specs.declared.CentsPerMwDay.{CentsPerMwDay}
 use Rattle.curve.specs.declared.Curve.{Curve}
-use Rattle.curve.specs.declared.CurvePrice.{CurvePrice}
-use Rattle.curve.specs.declared.CurvePrice.TheVariants.{Price as CurvePrice-as-Price, NoPrice as CurvePrice-as-NoPrice}
 use Rattle.curve.specs.declared.exact.ExactPrice.{ExactPrice}
-use Rattle.curve.specs.declared.exact.ExactCurvePrice.{ExactCurvePrice}
-use Rattle.curve.specs.declared.exact.ExactCurvePrice.TheVariants.{Price, NoPrice}
-use Rattle.curve.specs.Price.{line}
+use Rattle.curve.specs.Price.{line, CurvePrice}
+use Rattle.std.specs.declared.option.Option.{Option}
+
+-- what a curve says of a quantity, between cents: past Q3 nothing is bought
+abbrev pub ExactCurvePrice : Type 0
+ExactCurvePrice = Option ExactPrice
 
 -- the line from (qa, pa) to (qb, pb) at k, exactly, is this over its width qb − qa: what `line` divides
 abbrev pub line_numerator : ℕ → ℕ → ℕ → ℕ → ℕ → ℕ
@@ -38,7 +39,7 @@ exact_price c k =
 
 -- what a curve says of k between cents: the price up to Q3; past Q3 there is none
 unfoldable pub exact_curve_price : Curve → ℕ → ExactCurvePrice
-exact_curve_price c k = cond (leb k c.q3) (Price (exact_price c k)) NoPrice
+exact_curve_price c k = cond (leb k c.q3) (Some (exact_price c k)) None
 
 -- ---- what such a price comes to
 
@@ -56,5 +57,5 @@ MoreBy a b n d = numerator a * (b.divisor * d) ≡ numerator b * (a.divisor * d)
 
 -- what a curve says, in whole cents: the cents of its price, or that there is none
 abbrev pub cents_said : ExactCurvePrice → CurvePrice
-cents_said (Price e) = CurvePrice-as-Price e.cents
-cents_said NoPrice = CurvePrice-as-NoPrice
+cents_said (Some e) = Some e.cents
+cents_said None = None

@@ -1,10 +1,14 @@
 -- The curve price at a quantity.
 -- Assumes nothing.
-use Rattle.std.specs.Prelude.{ℕ, ◌+◌, ◌-◌, ◌*◌, ◌/◌, cond, leb}
+use Rattle.std.specs.Prelude.{ℕ, ◌+◌, ◌-◌, ◌*◌, ◌/◌, cond, leb, Some, None}
 use Rattle.auction.specs.Offers.{Demand}
 use Rattle.curve.specs.declared.Curve.{Curve}
-use Rattle.curve.specs.declared.CurvePrice.{CurvePrice}
-use Rattle.curve.specs.declared.CurvePrice.TheVariants.{Price, NoPrice}
+use Rattle.std.specs.declared.option.Option.{Option}
+use Rattle.units.specs.declared.CentsPerMwDay.{CentsPerMwDay}
+
+-- what a curve says of a quantity, in whole cents: past Q3 nothing is bought
+abbrev pub CurvePrice : Type 0
+CurvePrice = Option CentsPerMwDay
 
 -- the straight line from (qa, pa) to (qb, pb) at k, rounded down to a cent
 unfoldable pub line : ℕ → ℕ → ℕ → ℕ → ℕ → ℕ
@@ -19,7 +23,7 @@ tenth_price c k =
 
 -- past Q3 nothing is bought, and a curve asked there says that it has no price
 unfoldable pub curve_price : Curve → ℕ → CurvePrice
-curve_price c k = cond (leb k c.q3) (Price (record { 0 = tenth_price c k })) NoPrice
+curve_price c k = cond (leb k c.q3) (Some (record { 0 = tenth_price c k })) None
 
 -- the curve as the demand side of an auction
 abbrev pub demand_of : Curve → Demand

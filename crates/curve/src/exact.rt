@@ -15,29 +15,21 @@ pub struct ExactPrice {
     pub divisor: u32,
 }
 
-// What a curve says of a quantity, between cents.
-#[derive(Clone, Copy)]
-pub enum ExactCurvePrice {
-    Price(ExactPrice),
-    // Past Q3 nothing is bought.
-    NoPrice,
-}
-
 // The price on the line from (qa, pa) to (qb, pb) at k.
 fn between(pa: u32, pb: u32, qa: u32, qb: u32, k: u32) -> ExactPrice
     requires { (pb ≤ pa) × (qa < qb) × (qa ≤ k) × (k ≤ qb) }
     ensures { result ≡ exact_line pa pb qa qb k }
 {
-    let before = pa as u64 * (qb - k) as u64;
-    let after = pb as u64 * (k - qa) as u64;
+    let before = u64::from(pa) * u64::from(qb - k);
+    let after = u64::from(pb) * u64::from(k - qa);
     let numerator = before + after;
-    let width = qb - qa;
-    let cents = (numerator / width as u64) as u32;
-    let remainder = (numerator % width as u64) as u32;
+    let divisor = qb - qa;
+    let width = u64::from(divisor);
+    let remainder = (numerator % width) as u32;
     ExactPrice {
-        cents: CentsPerMwDay(cents),
+        cents: CentsPerMwDay((numerator / width) as u32),
         remainder,
-        divisor: width,
+        divisor,
     }
 }
 
@@ -46,29 +38,27 @@ pub(crate) fn exact_price(c: Curve, k: u32) -> ExactPrice
     requires { Shaped c × (k ≤ c.q3) }
     ensures { result ≡ exact_price c k }
 {
-    let p1 = c.p1;
-    let p2 = c.p2;
     if k <= c.q1 {
-        return ExactPrice {
-            cents: p1,
+        ExactPrice {
+            cents: c.p1,
             remainder: 0,
             divisor: 1,
-        };
+        }
+    } else if k <= c.q2 {
+        between(c.p1.0, c.p2.0, c.q1, c.q2, k)
+    } else {
+        between(c.p2.0, 0, c.q2, c.q3, k)
     }
-    if k <= c.q2 {
-        return between(p1.0, p2.0, c.q1, c.q2, k);
-    }
-    between(p2.0, 0, c.q2, c.q3, k)
 }
 
 // The price at a quantity, or that there is none.
-pub fn price_at(c: Curve, k: u32) -> ExactCurvePrice
+pub fn price_at(c: Curve, k: u32) -> Option<ExactPrice>
     requires { Shaped c }
     ensures { result ≡ exact_curve_price c k }
 {
     if k <= c.q3 {
-        ExactCurvePrice::Price(exact_price(c, k))
+        Some(exact_price(c, k))
     } else {
-        ExactCurvePrice::NoPrice
+        None
     }
 }

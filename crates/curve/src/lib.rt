@@ -70,21 +70,13 @@ pub struct Curve {
     pub q3: u32,
 }
 
-// What a curve says of a quantity, in whole cents. `exact::price_at` says it between cents.
-#[derive(Clone, Copy)]
-pub enum CurvePrice {
-    Price(CentsPerMwDay),
-    // Past Q3 nothing is bought.
-    NoPrice,
-}
-
 // The requirement times weight / whole, to the nearest tenth.
 fn quantity(requirement: u32, weight: u32, whole: u32) -> u32
     requires { (requirement ≤ 2000000) × (10 * weight ≤ 11 * whole) × (0 < whole) }
     ensures { result ≡ nearest (requirement * weight) whole }
 {
-    let exact = requirement as u64 * weight as u64;
-    let over = whole as u64;
+    let exact = u64::from(requirement) * u64::from(weight);
+    let over = u64::from(whole);
     let tenths = (2 * exact + over) / (2 * over);
     tenths as u32
 }
@@ -94,9 +86,7 @@ fn net_cost(t: Terms) -> DollarsPerMwYear
     requires { InRange t }
     ensures { result.0 ≡ net_cost t }
 {
-    let cost = t.cost;
-    let offset = t.offset;
-    DollarsPerMwYear(cost.0 - offset.0)
+    DollarsPerMwYear(t.cost.0 - t.offset.0)
 }
 
 // P1: the greater of C and the first weight times the net cost, by the day.
@@ -104,12 +94,11 @@ fn first_price(w: Weights, t: Terms) -> CentsPerMwDay
     requires { (w.first ≤ 7) × InRange t }
     ensures { result.0 ≡ first_price w t }
 {
-    let cost = t.cost;
     let net = net_cost(t);
-    if cost.0 * 4 < net.0 * w.first {
+    if t.cost.0 * 4 < net.0 * w.first {
         units::daily(net, w.first, t.outage)
     } else {
-        units::daily(cost, 4, t.outage)
+        units::daily(t.cost, 4, t.outage)
     }
 }
 
@@ -132,6 +121,5 @@ pub fn tenth_price(c: Curve, k: u32) -> CentsPerMwDay
     requires { Shaped c × (k ≤ c.q3) }
     ensures { (result.0 ≡ tenth_price c k) × (result.0 ≤ c.p1.0) }
 {
-    let exact = exact_price(c, k);
-    exact.cents
+    exact_price(c, k).cents
 }

@@ -11,8 +11,6 @@ use lib.ListN.{length}
 use Rattle.block.specs.Bytes.{byte}
 use Rattle.block.specs.Check.{check_holds}
 use Rattle.values.specs.Contents.{Contents, offer_at}
-use Rattle.values.specs.declared.Verdict.TheVariants.{Passed}
-use Rattle.values.specs.declared.head.Parameters.{Parameters}
 use Rattle.values.specs.declared.place.Offer.{Offer}
 use Rattle.sections.specs.Blocks.{block_count, block_of, place_of, row_bytes}
 use Rattle.sections.specs.Section.{blocks_for, rows_here, rows_hold}
@@ -31,8 +29,9 @@ use Rattle.encoding.proofs.RowsRead.{rows_back}
 use Rattle.encoding.proofs.Rows.{rows_block}
 use Rattle.encoding.proofs.Book.{offers_here, length-offers_here, offers_here-most, offer-here}
 use Rattle.encoding.proofs.Book.{first_block, encode-assembled}
+use Rattle.values.specs.Refusals.{no_fault}
 
-module _ (b : List ℕ) (bytes : (i : ℕ) → i < length b → byte b i < 256) (passed : form_fault b ≡ Passed) where
+module _ (b : List ℕ) (bytes : (i : ℕ) → i < length b → byte b i < 256) (passed : form_fault b ≡ no_fault) where
   abbrev c : Contents
   c = contents_of b
 

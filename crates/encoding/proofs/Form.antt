@@ -11,11 +11,9 @@ use lib.ListN.{length}
 use borrow.Author.Tests.{le-leb, eq-eqb}
 use Rattle.laws.proofs.Cases.{and-true}
 use Rattle.block.specs.Check.{check_holds}
-use Rattle.values.specs.Refusals.{first, wrong_length, wrong_check, wrong_layout}
+use Rattle.values.specs.Refusals.{wrong_length, wrong_check, wrong_layout, no_fault}
 use Rattle.values.specs.Head.{edition_in, offers_in}
 use Rattle.values.specs.Contents.{Contents, offer_at}
-use Rattle.values.specs.declared.Verdict.{Verdict}
-use Rattle.values.specs.declared.Verdict.TheVariants.{Passed}
 use Rattle.values.specs.declared.place.Offer.{Offer}
 use Rattle.values.proofs.Firsts.{unless-true, and_then-next, first-all}
 use Rattle.sections.specs.Blocks.{block_count, block_of}
@@ -54,7 +52,7 @@ module _ (c : Contents) where
       ∙ check-block c.edition (1 + j) (offers_here c.offers j) (offers_here-most c.offers j)
 
   -- Each block's check holds.
-  pub encode-checks : check_fault b ≡ Passed
+  pub encode-checks : check_fault b ≡ no_fault
   unfolding check_fault
   encode-checks =
       first-all _ (block_count b)
@@ -62,7 +60,7 @@ module _ (c : Contents) where
 
   module _ (fits : Fits c) where
     -- The length is one of a book.
-    pub encode-whole : length_fault b ≡ Passed
+    pub encode-whole : length_fault b ≡ no_fault
     unfolding length_fault
     encode-whole =
         let long = encode-length c in
@@ -93,7 +91,7 @@ module _ (c : Contents) where
         let here = length-offers_here c.offers j in
         rw (offer-here c j i (omega arith)) (fits.steps (j * 15 + i) (omega arith))
 
-    block-part : (j : ℕ) → j < blocks_for rows → block_fault b (offers_section b) j ≡ Passed
+    block-part : (j : ℕ) → j < blocks_for rows → block_fault b (offers_section b) j ≡ no_fault
     unfolding block_fault
     block-part j l =
         let os : List Offer = offers_here c.offers j in
@@ -103,15 +101,15 @@ module _ (c : Contents) where
         (ap₂ (λ (s : List ℕ) (n : ℕ). rows_hold (offers_section b) s (1 + j) n) (encode-block c j l) here
         ∙ rows-hold c.edition (1 + j) os (fits-here j) (steps-here j) b encode-edition (omega (arith, fits.few)) (offers_here-most c.offers j))
 
-    section-part : section_fault b (offers_section b) ≡ Passed
+    section-part : section_fault b (offers_section b) ≡ no_fault
     unfolding section_fault
     section-part = first-all _ (blocks_for (offer_count b)) (λ j l. block-part j (rw encode-count at l))
 
-    pub encode-layout : layout_fault b ≡ Passed
+    pub encode-layout : layout_fault b ≡ no_fault
     unfolding layout_fault
     encode-layout = and_then-next _ _ (unless-true _ (wrong_layout 0) head-part) ∙ section-part
 
     -- A book that is written passes 1, 2 and 3.
-    pub encode-form : form_fault b ≡ Passed
+    pub encode-form : form_fault b ≡ no_fault
     unfolding form_fault
     encode-form = and_then-next _ _ encode-whole ∙ and_then-next _ _ encode-checks ∙ encode-layout

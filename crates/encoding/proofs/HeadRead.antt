@@ -13,13 +13,13 @@ use borrow.Author.Tests.{ltb-true, eqb-true}
 use Rattle.laws.specs.Sum.{every}
 use Rattle.laws.proofs.Cases.{and_left, and_right}
 use Rattle.laws.proofs.Everys.{every-at}
-use Rattle.block.specs.Bytes.{byte, u16_at, u32_at, opens_with, blank}
+use Rattle.block.specs.Bytes.{byte, u32_at, opens_with, blank}
 use Rattle.block.specs.Check.{check_holds}
 use Rattle.values.specs.Values.{marked, value_of, absent_is_zero}
 use Rattle.values.specs.Head.{parameters_of, edition_in, offers_in}
 use Rattle.sections.proofs.Places.{blank-at}
 use Rattle.layout.specs.Layout.{rpmb, edition_known, count_fits, head_marks_hold, head_holds}
-use Rattle.encoding.specs.Numbers.{u16_bytes, value_bytes, mark_of}
+use Rattle.encoding.specs.Numbers.{value_bytes, mark_of}
 use Rattle.encoding.specs.Encode.{head_marks, head_bytes, sealed}
 use Rattle.encoding.proofs.Cuts.{part, part-onto}
 use Rattle.encoding.proofs.Digits.{Bytes, pair-at, u16_bytes-at, u32_bytes-at}

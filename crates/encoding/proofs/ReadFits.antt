@@ -2,7 +2,7 @@
 --
 -- In order: a value; a step; an offer; the parameters; the contents.
 -- Assumes nothing.
-use mathlib.Core.Path.{◌≡◌, sym, ◌∙◌}
+use mathlib.Core.Path.{◌≡◌}
 use mathlib.Core.Bool.{Bool, true, false, cond}
 use mathlib.Core.List.{List}
 use Prim.Native.Nat.{ℕ, ◌<◌}
@@ -14,7 +14,6 @@ use Rattle.block.specs.Bytes.{byte, u32_at}
 use Rattle.values.specs.Values.{marked, value_of}
 use Rattle.values.specs.Head.{parameters_of}
 use Rattle.values.specs.Place.{step_of, offer_of}
-use Rattle.values.specs.declared.Verdict.TheVariants.{Passed}
 use Rattle.sections.specs.Blocks.{block_of, row_bytes}
 use Rattle.layout.specs.Form.{edition_of, form_fault}
 use Rattle.layout.specs.Read.{row_offer, contents_of}
@@ -24,6 +23,7 @@ use Rattle.encoding.specs.Widths.{ValueFits, OfferFits}
 use Rattle.encoding.specs.inner.Fits.{ParametersFit, StepFits, Fits}
 use Rattle.encoding.proofs.Digits.{Bytes, u16_at-most, u32_at-most, u64_at-most}
 use Rattle.encoding.proofs.Parts.{bytes_read, block-bytes, row-bytes}
+use Rattle.values.specs.Refusals.{no_fault}
 
 value-fits : (t : Bool) (n : ℕ) → n < 4294967296 → ValueFits (value_of t n)
 value-fits true n h = h
@@ -80,7 +80,7 @@ module _ (b : List ℕ) (bytes : (i : ℕ) → i < length b → byte b i < 256) 
   row-step-fits row = place-fits (row_bytes b 1 row) (row-bytes b (bytes_read b bytes) 1 row) edition
 
   -- The contents of a book that passes 1, 2 and 3 fit.
-  pub read_fits : form_fault b ≡ Passed → Fits (contents_of b)
+  pub read_fits : form_fault b ≡ no_fault → Fits (contents_of b)
   read_fits passed = record {
     edition = rw (← contents-edition b) (form-passed-edition b passed);
     few = omega (arith, form-passed-count b passed, contents-count b);

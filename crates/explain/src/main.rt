@@ -3,7 +3,6 @@
 #![tactic(auto)]
 
 use input::read_input;
-use numbers::lesser_size;
 use page::put_page;
 
 fn main(rt: HostRuntime) {
@@ -15,7 +14,7 @@ fn main(rt: HostRuntime) {
     }
     let mut text = [0u8; 98304];
     let end = put_page(&mut text, 0, &bytes[..input.length]);
-    if rt.write_all(&text[..lesser_size(end, 98304)]).is_err() {
+    if rt.write_all(&text[..end.min(text.len())]).is_err() {
         let _ = rt.eprintln("explain: standard output was not all taken");
     }
 }

@@ -1,2 +1,1 @@
 pub mod RefusalsDecided
-mod Values

@@ -8,14 +8,10 @@ use values::head::Parameters;
 use wording::word::{either, given};
 
 // Puts a line for each parameter that is missing, the margin only in a year that needs it.
+#[tactic(auto, using(wording::proofs::Showing::showing), unfolding(crate::specs::Missing::missing_parameters_numbers))]
 pub fn put_missing_parameters(room: &mut [u8], at: usize, p: Parameters) -> usize
     ensures { Shown room.old at (missing_parameters_numbers p) room.new result }
 {
-    let cost = p.cost;
-    let offset = p.offset;
-    let outage = p.outage;
-    let requirement = p.requirement;
-    let margin = p.margin;
     put_form(
         room,
         at,
@@ -26,16 +22,17 @@ pub fn put_missing_parameters(room: &mut [u8], at: usize, p: Parameters) -> usiz
 ][|missing: the reserve margin, which the year's curve needs
 ]",
         &[
-            !given(cost) as u64,
-            !given(offset) as u64,
-            !given(outage) as u64,
-            !given(requirement) as u64,
-            either(given(margin), 0, by_margin(p.year) as u64),
+            u64::from(!given(p.cost)),
+            u64::from(!given(p.offset)),
+            u64::from(!given(p.outage)),
+            u64::from(!given(p.requirement)),
+            either(given(p.margin), 0, u64::from(by_margin(p.year))),
         ],
     )
 }
 
 // Puts a row whose price is missing, and in edition 2 which of its resource's steps it is.
+#[tactic(auto, using(wording::proofs::Showing::showing), unfolding(crate::specs::Missing::missing_price_numbers))]
 pub fn put_missing_price(
     room: &mut [u8],
     at: usize,
@@ -53,9 +50,9 @@ pub fn put_missing_price(
 ",
         &[
             row as u64,
-            resource as u64,
-            (edition == 2) as u64,
-            step as u64,
+            u64::from(resource),
+            u64::from(edition == 2),
+            u64::from(step),
         ],
     )
 }

@@ -5,10 +5,11 @@ ghost use Rattle.faultlines.specs.Refused.{length_numbers, check_numbers, layout
 use forms::put_form;
 use wording::word::either;
 
-// The most bytes that a book has.
+// The most bytes that a book has: `layout::MOST_BYTES`, said again here as this crate does not stand on `layout`.
 const MOST: usize = 20992;
 
 // Puts refusal 1: the length.
+#[tactic(auto, using(wording::proofs::Showing::showing), unfolding(crate::specs::Refused::length_numbers))]
 pub fn put_length(room: &mut [u8], at: usize, bytes: usize) -> usize
     ensures { Shown room.old at (length_numbers bytes) room.new result }
 {
@@ -19,11 +20,12 @@ pub fn put_length(room: &mut [u8], at: usize, bytes: usize) -> usize
   the length is [@ bytes|1 byte|over 20,992 bytes]
   it has to be a multiple of 512, from 512 to 20,992
 ",
-        &[either(MOST < bytes, 2, (bytes == 1) as u64), bytes as u64],
+        &[either(MOST < bytes, 2, u64::from(bytes == 1)), bytes as u64],
     )
 }
 
 // Puts refusal 2: the check of a block.
+#[tactic(auto, using(wording::proofs::Showing::showing), unfolding(crate::specs::Refused::check_numbers))]
 pub fn put_check(room: &mut [u8], at: usize, block: u32) -> usize
     ensures { Shown room.old at (check_numbers block) room.new result }
 {
@@ -33,11 +35,13 @@ pub fn put_check(room: &mut [u8], at: usize, block: u32) -> usize
         b"refused 2 at block #
   the check of block # is wrong, so nothing of the book is read
 ",
-        &[block as u64, block as u64],
+        &[u64::from(block), u64::from(block)],
     )
 }
 
-// Puts refusal 3: the layout of a block, by the number of the test that it fails first and the byte that fails it.
+// Puts refusal 3: the layout of a block, by the byte that fails it and the number of the test that it fails first, which picks the
+// form's part.
+#[tactic(auto, using(wording::proofs::Showing::showing), unfolding(crate::specs::Refused::layout_numbers))]
 pub fn put_layout(room: &mut [u8], at: usize, block: u32, test: u32, byte: u32) -> usize
     ensures { Shown room.old at (layout_numbers block test byte) room.new result }
 {
@@ -54,11 +58,17 @@ pub fn put_layout(room: &mut [u8], at: usize, block: u32, test: u32, byte: u32) 
     |it has to be zero]
   so nothing of the book is read
 ",
-        &[block as u64, block as u64, byte as u64, test as u64],
+        &[
+            u64::from(block),
+            u64::from(block),
+            u64::from(byte),
+            u64::from(test),
+        ],
     )
 }
 
 // Puts the first lines of refusals 6, 7, 8 and 10: the row, and for 8 the earlier row with its resource number.
+#[tactic(auto, using(wording::proofs::Showing::showing), unfolding(crate::specs::Refused::refused_row_numbers))]
 pub fn put_refused_row(
     room: &mut [u8],
     at: usize,
@@ -80,11 +90,11 @@ refused # at row #
     ||a step that breaks the rules of steps]
 ",
         &[
-            number as u64,
+            u64::from(number),
             row as u64,
             row as u64,
-            resource as u64,
-            number as u64,
+            u64::from(resource),
+            u64::from(number),
             first as u64,
         ],
     )

@@ -1,6 +1,7 @@
 // What is wrong with a row: its values beside their ranges, and the rule of steps that it breaks.
+ghost use Rattle.std.specs.Prelude.{◌≡◌};
 ghost use Rattle.forms.specs.Shown.{Shown};
-ghost use Rattle.faultlines.specs.Wrong.{values_numbers, rules_numbers};
+ghost use Rattle.faultlines.specs.Wrong.{step_word, values_numbers, rules_numbers};
 ghost use Rattle.faultlines.specs.inner.Ranged.{Ranges};
 
 use forms::put_form;
@@ -8,7 +9,7 @@ use limits::offers::step_within;
 use limits::parameters::{given_within, within};
 use values::place::Offer;
 use values::{Value, number_held};
-use wording::word::{either, given};
+use wording::word::given;
 
 // A value beside its range, as the numbers that are shown: whether it is given, its number, and 1 where it is out of the range.
 #[derive(Clone, Copy)]
@@ -23,23 +24,33 @@ fn beside(low: u32, high: u32, v: Value) -> Ranged
     ensures { Ranges low high v result }
 {
     Ranged {
-        given: given(v) as u64,
-        number: number_held(v) as u64,
-        out: !given_within(low, high, v) as u64,
+        given: u64::from(given(v)),
+        number: u64::from(number_held(v)),
+        out: u64::from(!given_within(low, high, v)),
+    }
+}
+
+// A step: 0 none is told in edition 1, 1 it is within its range, 2 it is not.
+fn step_word(edition: u32, step: u32) -> u64
+    ensures { result ≡ step_word edition step }
+{
+    if edition == 1 {
+        0
+    } else if step_within(edition, step) {
+        1
+    } else {
+        2
     }
 }
 
 // Puts the values of a row, each with its range, and which are out of it.
+#[tactic(auto, using(wording::proofs::Showing::showing), unfolding(crate::specs::Wrong::values_numbers))]
 pub fn put_values(room: &mut [u8], at: usize, edition: u32, o: Offer) -> usize
     ensures { Shown room.old at (values_numbers edition o) room.new result }
 {
-    let price = o.price;
-    let block = o.block;
-    let price = beside(0, 1000000, price);
-    let block = beside(1, o.quantity, block);
-    let resource = o.resource as u64;
-    let seller = o.seller as u64;
-    let step = o.step as u64;
+    let price = beside(0, 1000000, o.price);
+    let block = beside(1, o.quantity, o.block);
+    let step = u64::from(o.step);
     put_form(
         room,
         at,
@@ -52,26 +63,27 @@ pub fn put_values(room: &mut [u8], at: usize, edition: u32, o: Offer) -> usize
 |    step #, from 1 to 10 <- out of range
 ]",
         &[
-            resource,
-            (resource < 1) as u64,
-            seller,
-            (seller < 1) as u64,
+            u64::from(o.resource),
+            u64::from(o.resource < 1),
+            u64::from(o.seller),
+            u64::from(o.seller < 1),
             price.given,
             price.number,
             price.out,
-            o.quantity as u64,
-            !within(1, 200000, o.quantity) as u64,
+            u64::from(o.quantity),
+            u64::from(!within(1, 200000, o.quantity)),
             block.given,
             block.number,
             block.out,
-            either(edition == 1, 0, either(step_within(edition, o.step), 1, 2)),
+            step_word(edition, o.step),
             step,
             step,
         ],
     )
 }
 
-// Puts the rule of steps that a row breaks first, by its number.
+// Puts the rule of steps that a row breaks first, by its number, which picks the form's part.
+#[tactic(auto, using(wording::proofs::Showing::showing), unfolding(crate::specs::Wrong::rules_numbers))]
 pub fn put_rules(room: &mut [u8], at: usize, cause: u32) -> usize
     ensures { Shown room.old at (rules_numbers cause) room.new result }
 {
@@ -84,6 +96,6 @@ pub fn put_rules(room: &mut [u8], at: usize, cause: u32) -> usize
     |the price is under that of the row before\
     |only step 1 may have a minimum block]
 ",
-        &[cause as u64],
+        &[u64::from(cause)],
     )
 }

@@ -5,7 +5,7 @@
 -- Assumes nothing.
 use mathlib.Core.Path.{◌≡◌, refl, sym, ap, ◌∙◌}
 use mathlib.Core.List.{List, [], ◌∷◌, ◌++◌}
-use Prim.Native.Nat.{ℕ, zero, suc, ◌+◌, ◌≤◌, ◌<◌, min}
+use Prim.Native.Nat.{ℕ, zero, suc, ◌+◌, ◌≤◌, min}
 use native.Mathlib.Nat.{zero-add, suc-add, not-suc-le-zero, le_of_suc-le-suc, le_of_lt, min-eq_left, min-eq_right}
 use native.Mathlib.Omega.{arith}
 use lib.ListN.{length, take, set, length-append}
@@ -122,10 +122,10 @@ pub put-none : (room : List ℕ) (at : ℕ) → at ≤ 18446744073709551615 → 
 put-none room at h = record { buffer = sym (over_none room at); place = sym (behind-none at h) }
 
 -- one byte is stored where its place lies in the room, and else left out
-pub put-stored : (room : List ℕ) (at byte : ℕ) → at < length room → length room ≤ 18446744073709551615
-    → Put room at (byte ∷ []) (set room at byte) (at + 1)
+pub put-stored : (room : List ℕ) (at byte : ℕ) {end : ℕ} → end ≡ min (at + 1) 18446744073709551615
+    → Put room at (byte ∷ []) (set room at byte) end
 unfolding behind
-put-stored room at byte h small = record { buffer = sym (over-one room at byte); place = omega arith }
+put-stored room at byte e = record { buffer = sym (over-one room at byte); place = e }
 
 pub put-past : (room : List ℕ) (at byte : ℕ) {end : ℕ} → length room ≤ at → end ≡ min (at + 1) 18446744073709551615
     → Put room at (byte ∷ []) room end

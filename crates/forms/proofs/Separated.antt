@@ -12,11 +12,10 @@ use Rattle.forms.specs.inner.Plain.{separated}
 
 -- one letter more
 pub separated-next : (letters : List ℕ) (whole i : ℕ) → i < length letters
-    → separated (whole - i) (drop i letters)
-    ≡ (get_or letters i 0 ∷ comma (whole - (i + 1))) ++ separated (whole - (i + 1)) (drop (i + 1) letters)
+    → separated whole (drop i letters)
+    ≡ (get_or letters i 0 ∷ comma (whole - 1)) ++ separated (whole - 1) (drop (i + 1) letters)
 unfolding separated
-separated-next letters whole i h =
-    let less : whole - i - 1 ≡ whole - suc i = omega arith in rw (add-one i, drop-cons letters i 0 h, less)
+separated-next letters whole i h = rw (add-one i, drop-cons letters i 0 h)
 
 pub separated-none : (whole : ℕ) → separated whole [] ≡ []
 unfolding separated

@@ -10,61 +10,52 @@ pub fn put_form(room: &mut [u8], at: usize, form: &[u8], numbers: &[u64]) -> usi
     ensures { Put room.old at (form_text form.now numbers.now) room.new result }
 {
     let mut place = at;
-    let mut used = 0;
+    let mut left = numbers;
     let mut width = 0;
     let mut turn = 0;
-    let mut i = 0;
-    while i < form.len() {
-        let mark = form[i];
-        place = put_mark(room, place, turn == 0, mark, width, numbers, used);
-        turn = turn_after(mark, turn, numbers, used);
+    for &mark in form {
+        place = put_mark(room, place, turn == 0, mark, width, left);
+        turn = turn_after(mark, turn, left);
         width = width_after(mark, width);
-        used += taken_by(mark);
-        i += 1;
+        left = numbers_after(mark, left);
     }
     place
 }
 
-// How many parts of a choice stand before the one that is shown.
-fn turn_after(mark: u8, turn: u64, numbers: &[u64], used: usize) -> u64
-    ensures { result ≡ turn_after mark turn (drop used numbers.now) }
+// How many parts of a choice stand before the one that is shown: all ones behind it, as `specs/Form` counts them.
+#[tactic(auto, unfolding(crate::specs::Form::turn_after))]
+fn turn_after(mark: u8, turn: u64, numbers: &[u64]) -> u64
+    ensures { result ≡ turn_after mark turn numbers.now }
 {
-    if mark == b'[' {
-        if used < numbers.len() {
-            return numbers[used];
-        }
-        return 18446744073709551615;
+    match mark {
+        b'[' => numbers.first().copied().unwrap_or(u64::MAX),
+        b']' => 0,
+        b'|' if turn == 0 => u64::MAX,
+        b'|' => turn - 1,
+        _ => turn,
     }
-    if mark == b']' {
-        return 0;
-    }
-    if mark == b'|' {
-        if turn == 0 {
-            return 18446744073709551615;
-        }
-        return turn - 1;
-    }
-    turn
 }
 
 // How many letters the next number is widened by.
+#[tactic(auto, unfolding(crate::specs::Form::width_after))]
 fn width_after(mark: u8, width: usize) -> usize
     requires { width < 18446744073709551615 }
     ensures { (result ≡ width_after mark width) × (result ≤ width + 1) }
 {
-    if mark == b'_' {
-        return width + 1;
+    match mark {
+        b'_' => width + 1,
+        _ if is_number(mark) => 0,
+        _ => width,
     }
-    if is_number(mark) { 0 } else { width }
 }
 
-// How many numbers a byte takes.
-fn taken_by(mark: u8) -> usize
-    ensures { (result ≡ taken mark) × (result ≤ 1) }
+// The numbers that a byte leaves: all but the next where it takes one.
+#[tactic(auto, unfolding(crate::specs::Form::taken))]
+fn numbers_after(mark: u8, numbers: &[u64]) -> &[u64]
+    ensures { result.now ≡ drop (taken mark) numbers.now }
 {
-    if is_number(mark) | (mark == b'[') {
-        1
-    } else {
-        0
+    match numbers {
+        [_, left @ ..] if is_number(mark) || mark == b'[' => left,
+        _ => numbers,
     }
 }

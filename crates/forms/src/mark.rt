@@ -1,46 +1,53 @@
 // What a byte of a form shows.
-ghost use Rattle.std.specs.Prelude.{◌≡◌, cond, [], ◌≤◌, ◌<◌, drop};
+ghost use Rattle.std.specs.Prelude.{◌≡◌, cond, [], ◌≤◌, ◌<◌};
 ghost use Rattle.text.specs.Put.{right_text};
 ghost use Rattle.forms.specs.Put.{Put};
-ghost use Rattle.forms.specs.Mark.{byte_text, is_number, mark_text, next_text, places};
+ghost use Rattle.forms.specs.Mark.{byte_text, is_number, is_silent, mark_text, next_text, places};
 ghost use Rattle.forms.specs.inner.Plain.{wholes};
 
 use crate::number::{put_separated, spell};
 use crate::put::{put_byte, put_right};
-use numbers::excess_size;
 
 // Whether a byte is the mark of a number.
+#[tactic(auto, unfolding(crate::specs::Mark::is_number))]
 pub(crate) fn is_number(mark: u8) -> bool
     ensures { result ≡ is_number mark }
 {
-    (mark == b'#') | (mark == b'@') | (mark == b'~') | (mark == b'$') | (mark == b'&')
+    matches!(mark, b'#' | b'@' | b'~' | b'$' | b'&')
+}
+
+// Whether a byte shows nothing itself.
+#[tactic(auto, unfolding(crate::specs::Mark::is_silent))]
+fn is_silent(mark: u8) -> bool
+    ensures { result ≡ is_silent mark }
+{
+    matches!(mark, b'_' | b'[' | b'|' | b']')
 }
 
 // How many digits a mark shows behind the point.
+#[tactic(auto, unfolding(crate::specs::Mark::places))]
 fn places_of(mark: u8) -> usize
     ensures { (result ≡ places mark) × (result ≤ 3) }
 {
-    if mark == b'~' {
-        return 1;
+    match mark {
+        b'~' => 1,
+        b'$' => 2,
+        b'&' => 3,
+        _ => 0,
     }
-    if mark == b'$' {
-        return 2;
-    }
-    if mark == b'&' { 3 } else { 0 }
 }
 
 // How many letters of a number's text are digits whose thousands a mark separates.
+#[tactic(auto, unfolding(crate::specs::inner::Plain::wholes))]
 fn wholes_of(mark: u8, places: usize, end: usize) -> usize
     requires { places ≤ 3 }
     ensures { result ≡ wholes mark places end }
 {
-    if mark == b'#' {
-        return 0;
+    match places {
+        _ if mark == b'#' => 0,
+        0 => end,
+        _ => end.saturating_sub(places + 1),
     }
-    if places == 0 {
-        return end;
-    }
-    excess_size(end, places + 1)
 }
 
 // Puts a number as a mark shows it.
@@ -54,21 +61,14 @@ fn put_text(room: &mut [u8], at: usize, mark: u8, n: u64) -> usize
 }
 
 // Puts the next number to the right of its field, or a question mark where none is left.
-fn put_next(
-    room: &mut [u8],
-    at: usize,
-    mark: u8,
-    width: usize,
-    numbers: &[u64],
-    used: usize,
-) -> usize
-    ensures { Put room.old at (right_text width 32 (next_text mark (drop used numbers.now))) room.new result }
+fn put_next(room: &mut [u8], at: usize, mark: u8, width: usize, numbers: &[u64]) -> usize
+    ensures { Put room.old at (right_text width 32 (next_text mark numbers.now)) room.new result }
 {
-    if numbers.len() <= used {
+    let [next, ..] = numbers else {
         return put_right(room, at, b"?", width);
-    }
+    };
     let mut text = [0u8; 64];
-    let end = put_text(&mut text, 0, mark, numbers[used]);
+    let end = put_text(&mut text, 0, mark, *next);
     put_right(room, at, &text[..end], width)
 }
 
@@ -80,16 +80,14 @@ pub(crate) fn put_mark(
     mark: u8,
     width: usize,
     numbers: &[u64],
-    used: usize,
 ) -> usize
     requires { width < 18446744073709551615 }
-    ensures { Put room.old at (cond shown (byte_text width mark (drop used numbers.now)) []) room.new result }
+    ensures { Put room.old at (cond shown (byte_text width mark numbers.now) []) room.new result }
 {
-    if !shown | ((mark == b'_') | (mark == b'[') | (mark == b'|') | (mark == b']')) {
-        return at;
-    }
-    if is_number(mark) {
-        put_next(room, at, mark, width + 1, numbers, used)
+    if !shown || is_silent(mark) {
+        at
+    } else if is_number(mark) {
+        put_next(room, at, mark, width + 1, numbers)
     } else {
         put_byte(room, at, mark)
     }

@@ -6,7 +6,6 @@ ghost use Rattle.forms.specs.Number.{comma};
 ghost use Rattle.forms.specs.inner.Plain.{plain_text, separated};
 
 use crate::put::put_byte;
-use numbers::excess_size;
 use text::{put_decimal, put_number};
 
 // Spells a number, with a point where there are places.
@@ -26,7 +25,7 @@ fn put_digit(room: &mut [u8], at: usize, digit: u8, left: usize) -> usize
     ensures { Put room.old at (digit ∷ comma left) room.new result }
 {
     let place = put_byte(room, at, digit);
-    if (0 < left) & (left % 3 == 0) {
+    if 0 < left && left % 3 == 0 {
         put_byte(room, place, b',')
     } else {
         place
@@ -38,10 +37,10 @@ pub(crate) fn put_separated(room: &mut [u8], at: usize, letters: &[u8], whole: u
     ensures { Put room.old at (separated whole letters.now) room.new result }
 {
     let mut place = at;
-    let mut i = 0;
-    while i < letters.len() {
-        place = put_digit(room, place, letters[i], excess_size(whole, i + 1));
-        i += 1;
+    let mut left = whole;
+    for &letter in letters {
+        left = left.saturating_sub(1);
+        place = put_digit(room, place, letter, left);
     }
     place
 }

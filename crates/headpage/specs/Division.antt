@@ -1,18 +1,17 @@
 -- The numbers of the level that is divided, and of the contest for its spare tenths around the place where they end.
 -- Assumes nothing.
-use Rattle.std.specs.Prelude.{ℕ, ◌+◌, ◌-◌, min, cond, ◌||◌, List, [], ◌∷◌, ◌++◌, eqb}
+use Rattle.std.specs.Prelude.{ℕ, ◌+◌, ◌-◌, min, cond, ◌||◌, List, [], ◌∷◌, ◌++◌, eqb, Some, None}
 use Rattle.levels.specs.declared.level.Level.{Level}
-use Rattle.turns.specs.declared.place.Placed.{Placed}
-use Rattle.turns.specs.declared.place.Placed.TheVariants.{Held, NoOne}
 use Rattle.rowlines.specs.Division.{division_numbers, left_before_numbers, left_behind_numbers, place_numbers}
 use Rattle.forms.specs.Parts.{parts_of}
 use Rattle.workings.specs.Works.{worked}
 use Rattle.headpage.specs.Facts.{placed_in}
+use Rattle.turns.specs.Order.{Placed}
 
 -- who holds place k of a contest, where someone does
 abbrev pub place_parts : (edition spares k : ℕ) → Placed → List (List ℕ)
-place_parts edition spares k (Held c) = place_numbers edition k spares c ∷ []
-place_parts edition spares k NoOne = []
+place_parts edition spares k (Some c) = place_numbers edition k spares c ∷ []
+place_parts edition spares k None = []
 
 -- five places before the one where the spare tenths end, or as many as there are, and five from it on
 unfoldable pub places_parts : List ℕ → (edition spares : ℕ) → List (List ℕ)

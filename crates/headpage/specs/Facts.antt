@@ -1,17 +1,15 @@
 -- What a page asks of the workings of a book.
 -- Assumes nothing.
-use Rattle.ladder.specs.declared.rung.RungAt.TheVariants.{NoRung}
+use Rattle.std.specs.Prelude.{None, Ok, Err}
 use Rattle.ladder.specs.declared.rung.Ladder.{Ladder}
-use Rattle.turns.specs.declared.place.Placed.{Placed}
-use Rattle.turns.specs.declared.place.Placed.TheVariants.{NoOne}
-use Rattle.workings.specs.declared.works.WorksAnswer.{WorksAnswer}
-use Rattle.workings.specs.declared.works.WorksAnswer.TheVariants.{Worked, Refused}
+use Rattle.turns.specs.Order.{Placed}
+use Rattle.workings.specs.Works.{WorksAnswer}
 
 -- the ladder, and who holds the place: none where the book is not accepted
 abbrev pub ladder_in : WorksAnswer → Ladder
-ladder_in (Worked w) = w.ladder
-ladder_in (Refused number place) = record { lower = 0; rung = NoRung }
+ladder_in (Ok w) = w.ladder
+ladder_in (Err refusal) = record { lower = 0; rung = None }
 
 abbrev pub placed_in : WorksAnswer → Placed
-placed_in (Worked w) = w.contest.placed
-placed_in (Refused number place) = NoOne
+placed_in (Ok w) = w.contest.placed
+placed_in (Err refusal) = None

@@ -6,9 +6,8 @@ ghost use Rattle.headpage.specs.Division.{place_parts, places_parts, contest_par
 
 use crate::facts::placed_of;
 use levels::level::Level;
-use numbers::{excess, lesser};
 use rowlines::division::{put_division, put_left_before, put_left_behind, put_place};
-use turns::place::Placed;
+use workings::spares::Contest;
 
 // How many places are shown before the one where the spare tenths end, and from it on.
 const NEAR: u32 = 5;
@@ -25,8 +24,8 @@ fn put_place_of(
     ensures { Shows room.old at (place_parts edition spares k (placed_in (worked book.now 600 600 k))) room.new result }
 {
     match placed_of(book, k) {
-        Placed::Held(c) => put_place(room, at, edition, k, spares, c),
-        Placed::NoOne => at,
+        Some(c) => put_place(room, at, edition, k, spares, c),
+        None => at,
     }
 }
 
@@ -34,8 +33,8 @@ fn put_place_of(
 fn put_places(room: &mut [u8], at: usize, book: &[u8], edition: u32, spares: u32) -> usize
     ensures { Shows room.old at (places_parts book.now edition spares) room.new result }
 {
-    let first = excess(spares, NEAR) as usize;
-    let count = (lesser(spares, NEAR) + NEAR) as usize;
+    let first = spares.saturating_sub(NEAR) as usize;
+    let count = (spares.min(NEAR) + NEAR) as usize;
     let mut behind = at;
     for j in 0..count {
         behind = put_place_of(room, behind, book, edition, spares, first + j);
@@ -44,19 +43,13 @@ fn put_places(room: &mut [u8], at: usize, book: &[u8], edition: u32, spares: u32
 }
 
 // Puts the contest for spare tenths.
-fn put_contest(
-    room: &mut [u8],
-    at: usize,
-    book: &[u8],
-    edition: u32,
-    spares: u32,
-    contenders: u32,
-) -> usize
-    ensures { Shows room.old at (contest_parts book.now edition spares contenders) room.new result }
+fn put_contest(room: &mut [u8], at: usize, book: &[u8], edition: u32, contest: Contest) -> usize
+    ensures { Shows room.old at (contest_parts book.now edition contest.spares contest.contenders) room.new result }
 {
-    let before = put_left_before(room, at, excess(spares, NEAR));
+    let spares = contest.spares;
+    let before = put_left_before(room, at, spares.saturating_sub(NEAR));
     let places = put_places(room, before, book, edition, spares);
-    put_left_behind(room, places, spares, contenders)
+    put_left_behind(room, places, spares, contest.contenders)
 }
 
 // Puts how a level is divided, where it is: one that receives something and not all.
@@ -66,10 +59,9 @@ pub(crate) fn put_divided(
     book: &[u8],
     edition: u32,
     level: Level,
-    spares: u32,
-    contenders: u32,
+    contest: Contest,
 ) -> usize
-    ensures { Shows room.old at (divided_parts book.now edition level spares contenders) room.new result }
+    ensures { Shows room.old at (divided_parts book.now edition level contest.spares contest.contenders) room.new result }
 {
     if (level.amount == 0) | (level.amount == level.sum) {
         return at;
@@ -81,10 +73,10 @@ pub(crate) fn put_divided(
         level.price,
         level.amount,
         level.sum,
-        spares,
+        contest.spares,
     );
-    if spares == 0 {
+    if contest.spares == 0 {
         return divided;
     }
-    put_contest(room, divided, book, edition, spares, contenders)
+    put_contest(room, divided, book, edition, contest)
 }

@@ -5,7 +5,6 @@ ghost use Rattle.headpage.specs.Facts.{ladder_in};
 ghost use Rattle.headpage.specs.Levels.{ladder_parts, rung_parts, levels_parts};
 
 use crate::facts::ladder_of;
-use ladder::rung::RungAt;
 use rowlines::rungs::{put_ladder, put_rung};
 
 // Puts the ladder's head, where there is a rung.
@@ -13,10 +12,9 @@ fn put_ladder_head(room: &mut [u8], at: usize, book: &[u8]) -> usize
     ensures { Shows room.old at (ladder_parts (ladder_in (worked book.now 600 0 600))) room.new result }
 {
     let ladder = ladder_of(book, 0);
-    let first = ladder.rung;
-    match first {
-        RungAt::Reached(_) => put_ladder(room, at, ladder.lower),
-        RungAt::NoRung => at,
+    match ladder.rung {
+        Some(_) => put_ladder(room, at, ladder.lower),
+        None => at,
     }
 }
 
@@ -24,11 +22,9 @@ fn put_ladder_head(room: &mut [u8], at: usize, book: &[u8]) -> usize
 fn put_rung_of(room: &mut [u8], at: usize, book: &[u8], k: usize) -> usize
     ensures { Shows room.old at (rung_parts k (ladder_in (worked book.now 600 k 600))) room.new result }
 {
-    let ladder = ladder_of(book, k);
-    let reached = ladder.rung;
-    match reached {
-        RungAt::Reached(rung) => put_rung(room, at, k, rung),
-        RungAt::NoRung => at,
+    match ladder_of(book, k).rung {
+        Some(rung) => put_rung(room, at, k, rung),
+        None => at,
     }
 }
 

@@ -21,6 +21,7 @@ pub fn read_input<R: Read>(reader: &mut R, bytes: &mut [u8]) -> Input
     ensures whole { result.failed ≡ None → result.length < length bytes.new → IsAtEnd (R.remaining reader.new) }
 {
     let mut done = 0;
+    // a while, and no for: a read says how far it came, so how many turns there are stands nowhere before
     while done < bytes.len() {
         match reader.read(&mut bytes[done..]) {
             Ok(0) => {

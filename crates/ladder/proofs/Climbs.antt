@@ -1,107 +1,101 @@
 -- The ladder of prices, step by step.
 --
--- In order: a price beside one that was found; the least and the greatest value, one place after another; a price down and a
--- price up; a price that was found is that of a row.
+-- In order: what is picked of a list is what is picked place after place; a price down and a price up; a price that was found is no
+-- higher than those of the rows.
 -- Assumes nothing.
-use mathlib.Core.Path.{◌≡◌, refl, sym, ap, ap₂, ◌∙◌}
-use mathlib.Core.Bool.{Bool, cond}
-use mathlib.Core.Option.{Option, none, some}
-use Prim.Native.Nat.{ℕ, zero, suc, ◌+◌, ◌-◌, ◌≤◌, ◌<◌}
-use native.Mathlib.Numerals.{add-one}
+use mathlib.Core.Path.{◌≡◌, refl, sym, ap, ◌∙◌}
+use mathlib.Core.Bool.{Bool, true, false, cond}
+use mathlib.Core.List.{List, [], ◌∷◌, ◌++◌}
+use Prim.Native.Nat.{ℕ, zero, suc, ◌+◌, ◌≤◌, ◌<◌, min}
+use native.Mathlib.Nat.{le_refl}
 use native.Mathlib.Omega.{arith}
-use lib.Dec.{leb, ltb}
-use borrow.Author.Tests.{le-leb, lt-leb, lt-ltb, le-ltb}
-use Rattle.laws.specs.Largest.{least_where, lesser}
-use Rattle.laws.proofs.Cases.{cond-true, cond-false}
-use Rattle.laws.proofs.Leasts.{Least, least_where-is}
-use Rattle.ladder.specs.declared.price.Found.{Found}
-use Rattle.ladder.specs.inner.Found.{found_in}
-use Rattle.ladder.specs.Prices.{the_greater, most_where, lowest_from, highest_under, down, rung_price, onward}
+use lib.Dec.{leb}
+use lib.ListN.{length, take, get_or}
+use Rattle.std.proofs.Math.Seq.{take-length}
+use Rattle.std.proofs.lemmas.List.{append-nil}
+use Rattle.std.proofs.lemmas.List.Elements.{filter_more}
+use Rattle.std.proofs.lemmas.List.Sums.{fold_push}
+use Rattle.std.specs.List.{filter, fold, reduce}
+use Rattle.std.specs.Prelude.{Some, None}
+use Rattle.std.specs.declared.option.Option.{Option}
+use Rattle.ladder.specs.Prices.{of_both, pick_where, lowest_from, highest_under, down, rung_price, onward}
 
--- ---- a price beside one that was found
+-- ---- what is picked of a list, where of two it does not matter which is the first
 
-module _ (found : Found) (price bound : ℕ) where
-  pub lower-kept : price < bound → found_in found ≡ cond (leb bound price) (some (lesser price (found_in found))) (found_in found)
-  lower-kept l = sym (cond-false _ _ _ (lt-leb bound price l))
+module _ (pick : ℕ → ℕ → ℕ) (either : (a b : ℕ) → pick a b ≡ pick b a) where
+  last-picked : (ys : List ℕ) (x : ℕ) → reduce pick (ys ++ x ∷ []) ≡ Some (of_both pick x (reduce pick ys))
+  last-picked [] x = refl
+  last-picked (y ∷ ys) x = ap Some (fold_push pick y ys x ∙ either (fold pick y ys) x)
 
-  pub lower-taken : (is : Found) (v : ℕ) → found ≡ is → bound ≤ price → v ≡ lesser price (found_in is)
-      → some v ≡ cond (leb bound price) (some (lesser price (found_in found))) (found_in found)
-  lower-taken is v e l f = ap some (f ∙ ap (λ (a : Found). lesser price (found_in a)) (sym e)) ∙ sym (cond-true _ _ _ (le-leb bound price l))
+  next-picked : (t : Bool) (ys : List ℕ) (x : ℕ)
+      → reduce pick (ys ++ cond t (x ∷ []) []) ≡ cond t (Some (of_both pick x (reduce pick ys))) (reduce pick ys)
+  next-picked true ys x = last-picked ys x
+  next-picked false ys x = ap (reduce pick) (append-nil ys)
 
-  pub higher-kept : bound ≤ price → found_in found ≡ cond (ltb price bound) (some (the_greater price (found_in found))) (found_in found)
-  higher-kept l = sym (cond-false _ _ _ (le-ltb price bound l))
+  module _ (test : ℕ → Bool) (xs : List ℕ) where
+    abbrev value : ℕ → ℕ
+    value i = get_or xs i 0
 
-  pub higher-taken : (is : Found) (v : ℕ) → found ≡ is → price < bound → v ≡ the_greater price (found_in is)
-      → some v ≡ cond (ltb price bound) (some (the_greater price (found_in found))) (found_in found)
-  higher-taken is v e l f = ap some (f ∙ ap (λ (a : Found). the_greater price (found_in a)) (sym e)) ∙ sym (cond-true _ _ _ (lt-ltb price bound l))
+    first-picked : (n : ℕ) → n ≤ length xs → reduce pick (filter test (take n xs)) ≡ pick_where pick (λ i. test (value i)) value n
+    unfolding pick_where
+    first-picked zero l = refl
+    first-picked (suc n) l =
+        ap (λ (k : ℕ). reduce pick (filter test (take k xs))) {x = suc n} {y = n + 1} (omega arith)
+        ∙ ap (reduce pick) (filter_more test xs n 0 l)
+        ∙ next-picked (test (value n)) (filter test (take n xs)) (value n)
+        ∙ ap (λ (r : Option ℕ). cond (test (value n)) (Some (of_both pick (value n) r)) r) (first-picked n (omega arith))
 
--- ---- one place after another
-
-module _ (test : ℕ → Bool) (f : ℕ → ℕ) where
-  pub least-none : none ≡ least_where test f 0
-  unfolding least_where
-  least-none = refl
-
-  pub least_more : (n : ℕ) (before r : Option ℕ) → before ≡ least_where test f n
-      → r ≡ cond (test n) (some (lesser (f n) before)) before → r ≡ least_where test f (n + 1)
-  unfolding least_where
-  least_more n before r e g = rw add-one (g ∙ ap (λ (b : Option ℕ). cond (test n) (some (lesser (f n) b)) b) e)
-
-  pub most-none : none ≡ most_where test f 0
-  unfolding most_where
-  most-none = refl
-
-  pub most-more : (n : ℕ) (before r : Option ℕ) → before ≡ most_where test f n
-      → r ≡ cond (test n) (some (the_greater (f n) before)) before → r ≡ most_where test f (n + 1)
-  unfolding most_where
-  most-more n before r e g = rw add-one (g ∙ ap (λ (b : Option ℕ). cond (test n) (some (the_greater (f n) b)) b) e)
+    pub picked : reduce pick (filter test xs) ≡ pick_where pick (λ i. test (value i)) value (length xs)
+    picked =
+        ap (λ (ys : List ℕ). reduce pick (filter test ys)) (sym (take-length xs)) ∙ first-picked (length xs) (le_refl (length xs))
 
 -- ---- a price down and a price up
 
 module _ (price : ℕ → ℕ) (n : ℕ) where
-  down-here : (limit : ℕ) → down price n 0 limit ≡ limit
+  pub down-all : (k limit : ℕ) → k ≡ 0 → down price n k limit ≡ limit
   unfolding down
-  down-here limit = refl
+  down-all k limit e = ap (λ (m : ℕ). down price n m limit) e
 
-  pub down-all : (k limit : ℕ) → k ≤ 0 → down price n k limit ≡ limit
-  down-all zero limit l = down-here limit
-  down-all (suc k) limit l = absurd (omega arith)
-
-  down-suc : (k limit p : ℕ) → some p ≡ highest_under price n limit → down price n (suc k) limit ≡ down price n k p
+  pub down-one : (k j limit p : ℕ) → k ≡ suc j → Some p ≡ highest_under price n limit → down price n k limit ≡ down price n j p
   unfolding down
-  down-suc k limit p e = ap (λ (h : Option ℕ). onward limit (λ (q : ℕ). down price n k q) h) (sym e)
+  down-one k j limit p e f = ap (λ (m : ℕ). down price n m limit) e ∙ ap (onward limit (down price n j)) (sym f)
 
-  pub down-one : (k limit p : ℕ) → 0 < k → some p ≡ highest_under price n limit → down price n k limit ≡ down price n (k - 1) p
-  down-one zero limit p l e = absurd (omega arith)
-  down-one (suc k) limit p l e = down-suc k limit p e ∙ ap (λ (j : ℕ). down price n j p) (omega arith)
-
-  pub down_ends : (k limit : ℕ) → 0 < k → none ≡ highest_under price n limit → down price n k limit ≡ limit
+  pub down_ends : (k j limit : ℕ) → k ≡ suc j → None ≡ highest_under price n limit → down price n k limit ≡ limit
   unfolding down
-  down_ends zero limit l e = absurd (omega arith)
-  down_ends (suc k) limit l e = ap (λ (h : Option ℕ). onward limit (λ (q : ℕ). down price n k q) h) (sym e)
+  down_ends k j limit e f = ap (λ (m : ℕ). down price n m limit) e ∙ ap (onward limit (down price n j)) (sym f)
 
-  pub up-here : (k from : ℕ) → k ≤ 0 → rung_price price n k from ≡ lowest_from price n from
+  pub up-here : (k from : ℕ) → k ≡ 0 → rung_price price n k from ≡ lowest_from price n from
   unfolding rung_price
-  up-here zero from l = refl
-  up-here (suc k) from l = absurd (omega arith)
+  up-here k from e = ap (λ (m : ℕ). rung_price price n m from) e
 
-  pub up_one : (k from p : ℕ) → 0 < k → some p ≡ lowest_from price n from
-      → rung_price price n k from ≡ rung_price price n (k - 1) (p + 1)
+  pub up_one : (k j from p : ℕ) → k ≡ suc j → Some p ≡ lowest_from price n from → rung_price price n k from ≡ rung_price price n j (p + 1)
   unfolding rung_price
-  up_one zero from p l e = absurd (omega arith)
-  up_one (suc k) from p l e =
-      ap (λ (h : Option ℕ). onward none (λ (q : ℕ). rung_price price n k (suc q)) h) (sym e)
-      ∙ ap₂ (rung_price price n) {x = k} {y = suc k - 1} {u = suc p} {v = p + 1} (omega arith) (omega arith)
+  up_one k j from p e f =
+      ap (λ (m : ℕ). rung_price price n m from) e
+      ∙ ap (onward None (λ (q : ℕ). rung_price price n j (suc q))) (sym f)
+      ∙ ap (rung_price price n j) {x = suc p} {y = p + 1} (omega arith)
 
-  pub up_ends : (k from : ℕ) → 0 < k → none ≡ lowest_from price n from → none ≡ rung_price price n k from
+  pub up_ends : (k j from : ℕ) → k ≡ suc j → None ≡ lowest_from price n from → None ≡ rung_price price n k from
   unfolding rung_price
-  up_ends zero from l e = absurd (omega arith)
-  up_ends (suc k) from l e = ap (λ (h : Option ℕ). onward none (λ (q : ℕ). rung_price price n k (suc q)) h) e
+  up_ends k j from e f =
+      sym (ap (λ (m : ℕ). rung_price price n m from) e ∙ ap (onward None (λ (q : ℕ). rung_price price n j (suc q))) (sym f))
 
-  -- a price that was found is that of a row
-  pub found-cheap : (from p : ℕ) → ((i : ℕ) → i < n → price i ≤ 1000000) → some p ≡ lowest_from price n from → p ≤ 1000000
+  abbrev Within : Option ℕ → Type 0
+  Within None = Unit {0}
+  Within (Some p) = p ≤ 1000000
+
+  lesser-within : (t : Bool) (v : ℕ) (rest : Option ℕ) → v ≤ 1000000 → Within rest → Within (cond t (Some (of_both min v rest)) rest)
+  lesser-within true v None l w = l
+  lesser-within true v (Some q) l w = omega arith
+  lesser-within false v rest l w = w
+
+  least-within : (test : ℕ → Bool) (m : ℕ) → ((i : ℕ) → i < m → price i ≤ 1000000) → Within (pick_where min test price m)
+  unfolding pick_where
+  least-within test zero cheap = tt
+  least-within test (suc m) cheap =
+      lesser-within (test m) (price m) _ (cheap m (le_refl (suc m))) (least-within test m (λ i l. cheap i (omega arith)))
+
+  -- a price that was found is no higher than those of the rows
+  pub found-cheap : (from p : ℕ) → ((i : ℕ) → i < n → price i ≤ 1000000) → Some p ≡ lowest_from price n from → p ≤ 1000000
   unfolding lowest_from
-  found-cheap from p cheap e = go (rw (← e) at (least_where-is (λ i. leb from (price i)) price n))
-    where
-      go : Least (λ i. leb from (price i)) price n (some p) → p ≤ 1000000
-      go r = omega (arith, cheap r.place r.within, r.value)
+  found-cheap from p cheap e = rw (← e) at (least-within (λ i. leb from (price i)) n cheap)

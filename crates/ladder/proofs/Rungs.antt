@@ -1,11 +1,11 @@
 -- The rungs of the ladder, put together from what is offered at a price and below.
 -- Assumes nothing.
 use mathlib.Core.Path.{◌≡◌, ap, ◌∙◌}
-use mathlib.Core.Option.{none, some}
 use Prim.Native.Nat.{ℕ, ◌+◌, ◌-◌, ◌≤◌, ◌<◌, min}
 use native.Mathlib.Numerals.{add-one}
 use native.Mathlib.Omega.{arith}
 use borrow.Author.Tests.{le-leb}
+use Rattle.std.specs.Prelude.{Some, None}
 use Rattle.laws.specs.Sum.{sum_to}
 use Rattle.laws.proofs.Where.{sum_where-every}
 use Rattle.laws.proofs.Largests.{largest-is}
@@ -15,10 +15,8 @@ use Rattle.auction.proofs.Supply.{supply-split}
 use Rattle.levels.specs.Stop.{stop_level}
 use Rattle.levels.proofs.Stops.{stops}
 use Rattle.ladder.specs.Prices.{down, rung_price}
-use Rattle.ladder.specs.Ladder.{rung_of, as_rung, rung_at, ladder_from, ladder_at}
+use Rattle.ladder.specs.Ladder.{rung_of, as_rung, rung_at, ladder_from, ladder_at, RungAt}
 use Rattle.ladder.specs.declared.rung.Rung.{Rung}
-use Rattle.ladder.specs.declared.rung.RungAt.{RungAt}
-use Rattle.ladder.specs.declared.rung.RungAt.TheVariants.{Reached, NoRung}
 
 -- at 1,000,000 everything is offered
 everything : (o : Offers) → ((i : ℕ) → i < o.count → o.price i ≤ 1000000) → supply o 1000000 ≡ sum_to o.quantity o.count
@@ -42,12 +40,12 @@ module _ (o : Offers) (x : ℕ) where
         higher = (rw (g, f, everything o cheap) at d) i;
       }
 
-  pub rung-reached : (k from p : ℕ) (r : Rung) → some p ≡ rung_price o.price o.count k from → r ≡ rung_of o x p
-      → Reached r ≡ rung_at o x k from
+  pub rung-reached : (k from p : ℕ) (r : Rung) → Some p ≡ rung_price o.price o.count k from → r ≡ rung_of o x p
+      → Some r ≡ rung_at o x k from
   unfolding rung_at
-  rung-reached k from p r e f = ap Reached f ∙ ap (as_rung o x) e
+  rung-reached k from p r e f = ap Some f ∙ ap (as_rung o x) e
 
-  pub rung-none : (k from : ℕ) → none ≡ rung_price o.price o.count k from → NoRung ≡ rung_at o x k from
+  pub rung-none : (k from : ℕ) → None ≡ rung_price o.price o.count k from → None ≡ rung_at o x k from
   unfolding rung_at
   rung-none k from e = ap (as_rung o x) e
 

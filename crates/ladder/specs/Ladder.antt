@@ -1,16 +1,18 @@
 -- The price levels around the one at which a total x stops.
 -- Assumes nothing.
-use Rattle.std.specs.Prelude.{ℕ, suc, ◌-◌}
-use Rattle.std.proofs.Math.Option.{Option, none, some}
+use Rattle.std.specs.Prelude.{ℕ, suc, ◌-◌, Some, None}
 use Rattle.laws.specs.Sum.{sum_to}
 use Rattle.auction.specs.Offers.{Offers, supply, supply_below, level_sum}
 use Rattle.auction.specs.Shares.{level_amount}
 use Rattle.levels.specs.Stop.{stop_level}
 use Rattle.ladder.specs.Prices.{down, rung_price}
 use Rattle.ladder.specs.declared.rung.Rung.{Rung}
-use Rattle.ladder.specs.declared.rung.RungAt.{RungAt}
-use Rattle.ladder.specs.declared.rung.RungAt.TheVariants.{Reached, NoRung}
 use Rattle.ladder.specs.declared.rung.Ladder.{Ladder}
+use Rattle.std.specs.declared.option.Option.{Option}
+
+-- a rung, where there are so many prices
+abbrev pub RungAt : Type 0
+RungAt = Option Rung
 
 module _ (o : Offers) (x : ℕ) where
   -- the level at a price: what is offered at it, what it receives of x, and what is offered at all higher prices
@@ -25,8 +27,8 @@ module _ (o : Offers) (x : ℕ) where
 
   -- the same of a price that may not be there
   abbrev pub as_rung : Option ℕ → RungAt
-  as_rung none = NoRung
-  as_rung (some p) = Reached (rung_of p)
+  as_rung None = None
+  as_rung (Some p) = Some (rung_of p)
 
   -- the k-th level from a price on
   unfoldable pub rung_at : ℕ → ℕ → RungAt

@@ -3,7 +3,7 @@
 -- In order: how many offers are made of rows, and which stands at a row; the edition and the parameters of a book, how many offers it has, and
 -- that they are those of its rows.
 -- Assumes nothing.
-use mathlib.Core.Path.{◌≡◌, refl, sym, ◌∙◌}
+use mathlib.Core.Path.{◌≡◌, refl, sym}
 use mathlib.Core.List.{List}
 use Prim.Native.Nat.{ℕ, ◌<◌}
 use lib.ListN.{length}

@@ -1,7 +1,7 @@
 -- The contract of each public function of this crate leaves one answer: any two that it allows for the same bytes coincide,
 -- wherever the books lie.
 --
--- In order: the first faults; the reader of rows; the section of the offers; editions.
+-- In order: the first faults; the reader of rows; the section of the offers; the number of offers, and editions.
 -- Assumes nothing.
 use mathlib.Core.Path.{◌≡◌, sym, ◌∙◌}
 use mathlib.Core.Bool.{Bool}
@@ -10,14 +10,15 @@ use Prim.Native.Nat.{ℕ}
 use contract.Lifetimes.{Lfts}
 use denote.Ref.{Bor}
 use Rattle.laws.proofs.Answers.{same_answer}
-use Rattle.values.specs.Refusals.{and_then}
-use Rattle.values.specs.declared.Verdict.{Verdict}
+use Rattle.values.specs.Refusals.{and_then, Verdict}
 use Rattle.sections.specs.Blocks.{row_bytes}
 use Rattle.sections.specs.declared.section.Section.{Section}
+use Rattle.layout.specs.Layout.{count_fits}
 use Rattle.layout.specs.Form.{length_fault, check_fault, layout_fault, form_fault, edition_of, offer_count, offers_section, own_bytes}
 use Rattle.layout.proofs.form.lengths.Reads as lengths
 use Rattle.layout.proofs.form.blocks_fault.Reads as blocks-fault
 use Rattle.layout.proofs.form.form.Reads as form
+use Rattle.layout.proofs.head.count_fits.Reads as count-fits
 use Rattle.layout.proofs.head.edition_known.Reads as edition-known
 use Rattle.layout.proofs.reader.edition.Reads as edition
 use Rattle.layout.proofs.reader.offer_count.Reads as offer-count
@@ -69,6 +70,13 @@ module _ (κs : Lfts 1) (book other : Bor (List ℕ)) (same : book.now ≡ other
   pub offers-section-decided : (r s : Section)
       → offers-section.Post κs (book, tt) r (book, tt) → offers-section.Post κs (other, tt) s (other, tt) → r ≡ s
   offers-section-decided r s = same_answer offers_section same
+
+-- whether the number of offers fits, by the contract of `count_fits`
+pub count-fits-decided : (κs : Lfts 1) (part other : Bor (List ℕ)) (same : part.now ≡ other.now) (blocks : ℕ) (r s : Bool)
+    → count-fits.Post κs (part, (blocks, tt)) r (part, (blocks, tt))
+    → count-fits.Post κs (other, (blocks, tt)) s (other, (blocks, tt))
+    → r ≡ s
+count-fits-decided κs part other same blocks r s = same_answer (λ b. count_fits b blocks) same
 
 -- whether a book can have an edition, by the contract of `edition_known`
 pub edition-known-decided : (edition : ℕ) (r s : Bool)

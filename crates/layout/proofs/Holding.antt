@@ -12,11 +12,12 @@ use borrow.Author.Tests.{eqb-true, leb-true}
 use Rattle.laws.proofs.Cases.{and_left, and_right}
 use Rattle.block.specs.Bytes.{opens_with, blank}
 use Rattle.values.specs.Head.{edition_in, offers_in}
-use Rattle.values.specs.declared.Verdict.TheVariants.{Passed}
 use Rattle.values.proofs.Firsts.{unless-passed}
 use Rattle.sections.specs.Section.{blocks_for}
 use Rattle.layout.specs.Layout.{rpmb, edition_known, count_fits, head_marks_hold, head_holds}
 use Rattle.layout.specs.Form.{length_fault}
+use Rattle.values.specs.Refusals.{no_fault}
+use Rattle.values.specs.declared.refusal.Refusal.TheVariants.{WrongLength}
 
 -- a length that is whole blocks, one at least, and no more than 41
 pub record LengthHolds (bytes : ℕ) : Type 0 where
@@ -25,13 +26,13 @@ pub record LengthHolds (bytes : ℕ) : Type 0 where
   pub most : bytes ≤ 20992
 
 -- of the length
-pub length-holds : (b : List ℕ) → length_fault b ≡ Passed → LengthHolds (length b)
+pub length-holds : (b : List ℕ) → length_fault b ≡ no_fault → LengthHolds (length b)
 unfolding length_fault
 length-holds b e =
     let whole : Bool = eqb (length b % 512) 0 in
     let least : Bool = leb 512 (length b) in
     let most : Bool = leb (length b) 20992 in
-    let all : whole && (least && most) ≡ true = unless-passed (whole && (least && most)) 1 0 e in
+    let all : whole && (least && most) ≡ true = unless-passed (whole && (least && most)) WrongLength e in
     let bounds : least && most ≡ true = and_right whole (least && most) all in
     record {
       whole = eqb-true (length b % 512) 0 (and_left whole (least && most) all);

@@ -10,8 +10,8 @@ use Prim.Native.Nat.{ℕ, ◌+◌, ◌*◌, ◌/◌, ◌≤◌, ◌<◌}
 use native.Mathlib.Omega.{arith}
 use lib.ListN.{length}
 use Rattle.block.specs.Check.{check_holds}
-use Rattle.values.specs.Refusals.{unless, and_then, wrong_layout}
-use Rattle.values.specs.declared.Verdict.TheVariants.{Passed}
+use Rattle.values.specs.Refusals.{unless, and_then, wrong_layout, no_fault}
+use Rattle.values.specs.declared.refusal.Refusal.TheVariants.{WrongCheck, WrongLayout}
 use Rattle.values.proofs.Firsts.{unless-passed, and_then-left, and_then-right, first-at}
 use Rattle.sections.specs.Blocks.{block_count, block_of, row_bytes}
 use Rattle.sections.specs.Section.{blocks_for, rows_here, used_holds, rows_hold, section_fault}
@@ -20,19 +20,19 @@ use Rattle.layout.specs.Layout.{edition_known, head_holds}
 use Rattle.layout.specs.Form.{length_fault, check_fault, edition_of, offer_count, offers_last, offers_section, layout_fault, form_fault}
 use Rattle.layout.proofs.Holding.{LengthHolds, length-holds, CountHolds, head-edition, head-holds}
 
-module _ (b : List ℕ) (passed : form_fault b ≡ Passed) where
+module _ (b : List ℕ) (passed : form_fault b ≡ no_fault) where
   -- each of the three passed
   length_part : LengthHolds (length b)
   unfolding form_fault
   length_part = length-holds b (and_then-left (length_fault b) (and_then (check_fault b) (layout_fault b)) passed)
 
-  layout-part : layout_fault b ≡ Passed
+  layout-part : layout_fault b ≡ no_fault
   unfolding form_fault
   layout-part =
       and_then-right (check_fault b) (layout_fault b)
       (and_then-right (length_fault b) (and_then (check_fault b) (layout_fault b)) passed)
 
-  section-part : section_fault b (offers_section b) ≡ Passed
+  section-part : section_fault b (offers_section b) ≡ no_fault
   unfolding layout_fault
   section-part = and_then-right (unless (head_holds (block_of b 0) (block_count b)) (wrong_layout 0)) _ layout-part
 
@@ -40,15 +40,15 @@ module _ (b : List ℕ) (passed : form_fault b ≡ Passed) where
   pub form-passed-check : (k : ℕ) → k < block_count b → check_holds (block_of b k) ≡ true
   unfolding form_fault check_fault
   form-passed-check k l =
-      let checks : check_fault b ≡ Passed =
+      let checks : check_fault b ≡ no_fault =
       and_then-left (check_fault b) (layout_fault b)
       (and_then-right (length_fault b) (and_then (check_fault b) (layout_fault b)) passed) in
-      unless-passed (check_holds (block_of b k)) 2 k (first-at _ (block_count b) k checks l)
+      unless-passed (check_holds (block_of b k)) (WrongCheck k) (first-at _ (block_count b) k checks l)
 
   -- block 0 holds, and so does each offer block
   pub form-passed-head : head_holds (block_of b 0) (block_count b) ≡ true
   unfolding layout_fault
-  form-passed-head = unless-passed (head_holds (block_of b 0) (block_count b)) 3 0 (and_then-left _ _ layout-part)
+  form-passed-head = unless-passed (head_holds (block_of b 0) (block_count b)) (WrongLayout 0) (and_then-left _ _ layout-part)
 
   pub form-passed-block : (j : ℕ) → j < blocks_for (offer_count b)
       → rows_hold (offers_section b) (block_of b (1 + j)) (1 + j) (rows_here (offer_count b) j) ≡ true

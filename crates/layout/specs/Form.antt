@@ -1,11 +1,9 @@
 -- Refusals 1, 2 and 3, and the part that the reader of rows hands back.
 -- Assumes nothing.
-use Rattle.std.specs.Prelude.{ℕ, ◌%◌, cond, ◌&&◌, List, [], ◌∷◌, length, eqb, leb, ltb}
+use Rattle.std.specs.Prelude.{ℕ, ◌%◌, cond, ◌&&◌, List, [], ◌∷◌, length, eqb, leb, ltb, Err, Ok}
 use Rattle.block.specs.Check.{check_holds}
 use Rattle.values.specs.Head.{edition_in, offers_in}
-use Rattle.values.specs.Refusals.{wrong_length, wrong_check, wrong_layout, unless, and_then, first}
-use Rattle.values.specs.declared.Verdict.{Verdict}
-use Rattle.values.specs.declared.Verdict.TheVariants.{Passed, Refused}
+use Rattle.values.specs.Refusals.{wrong_length, wrong_check, wrong_layout, unless, and_then, first, Verdict}
 use Rattle.sections.specs.Blocks.{block_count, block_of, row_bytes}
 use Rattle.sections.specs.Section.{section_fault}
 use Rattle.sections.specs.declared.section.LastBytes.{LastBytes}
@@ -53,8 +51,8 @@ form_fault b = and_then (length_fault b) (and_then (check_fault b) (layout_fault
 
 -- what a reader hands back of a book: nothing where a fault was found
 abbrev pub handed_back : Verdict → List ℕ → List ℕ
-handed_back Passed part = part
-handed_back (Refused number place) part = []
+handed_back (Ok u) part = part
+handed_back (Err refusal) part = []
 
 -- an offer's own 32 bytes; for a row that isn't there, or a book refused by 1 to 3, an empty part
 unfoldable pub own_bytes : List ℕ → ℕ → List ℕ

@@ -1,8 +1,7 @@
 // The first fault among refusals 1, 2 and 3: the length, the check of every block, the layout of every block. Each block is
 // a part of the book, lent to the test of it.
 ghost use Rattle.std.specs.Prelude.{◌≡◌, ◌≤◌};
-ghost use Rattle.values.specs.Refusals.{and_then};
-ghost use Rattle.values.specs.declared.Verdict.TheVariants.{Passed};
+ghost use Rattle.values.specs.Refusals.{and_then, no_fault};
 ghost use Rattle.sections.specs.Blocks.{block_count};
 ghost use Rattle.layout.specs.Form.{length_fault, check_fault, layout_fault, form_fault};
 
@@ -12,68 +11,61 @@ use crate::offers::offers_section;
 use block::SIZE;
 use block::check::check_holds;
 use sections::rows::section_fault;
-use values::Verdict;
+use values::Refusal;
 
 // 1: whole blocks, one at least, and no more bytes than the most.
-pub fn lengths(book: &[u8]) -> Verdict
+#[tactic(auto, unfolding(crate::specs::Form::length_fault))]
+pub fn lengths(book: &[u8]) -> Result<(), Refusal>
     ensures { result ≡ length_fault book.now }
 {
     let bytes = book.len();
-    if bytes % SIZE != 0 {
-        return Verdict::Refused(1, 0);
+    if bytes % SIZE == 0 && SIZE <= bytes && bytes <= MOST_BYTES {
+        Ok(())
+    } else {
+        Err(Refusal::WrongLength)
     }
-    if bytes < SIZE {
-        return Verdict::Refused(1, 0);
-    }
-    if MOST_BYTES < bytes {
-        return Verdict::Refused(1, 0);
-    }
-    Verdict::Passed
 }
 
 // 2: the check of every block, lowest first.
-fn checks(book: &[u8], blocks: usize) -> Verdict
+fn checks(book: &[u8], blocks: usize) -> Result<(), Refusal>
     requires { (blocks ≡ block_count book.now) × (blocks ≤ 41) }
     ensures { result ≡ check_fault book.now }
 {
     for k in 0..blocks {
         let at = k * SIZE;
         if !check_holds(&book[at..at + SIZE]) {
-            return Verdict::Refused(2, k as u32);
+            return Err(Refusal::WrongCheck(k as u32));
         }
     }
-    Verdict::Passed
+    Ok(())
 }
 
 // 3: the layout of block 0, then of the offer blocks.
-fn layouts(book: &[u8], blocks: usize) -> Verdict
+fn layouts(book: &[u8], blocks: usize) -> Result<(), Refusal>
     requires { (blocks ≡ block_count book.now) × (1 ≤ blocks) }
     ensures { result ≡ layout_fault book.now }
 {
     if !head_holds(&book[0..SIZE], blocks) {
-        return Verdict::Refused(3, 0);
+        return Err(Refusal::WrongLayout(0));
     }
     section_fault(book, offers_section(book))
 }
 
 // The first fault among 2 and 3, of a book whose length holds.
-pub fn blocks_fault(book: &[u8]) -> Verdict
-    requires { length_fault book.now ≡ Passed }
+pub fn blocks_fault(book: &[u8]) -> Result<(), Refusal>
+    requires { length_fault book.now ≡ no_fault }
     ensures { result ≡ and_then (check_fault book.now) (layout_fault book.now) }
 {
     let blocks = book.len() / SIZE;
-    if let Verdict::Refused(number, place) = checks(book, blocks) {
-        return Verdict::Refused(number, place);
-    }
+    checks(book, blocks)?;
     layouts(book, blocks)
 }
 
 // The first fault among 1, 2 and 3.
-pub fn form(book: &[u8]) -> Verdict
+#[tactic(auto, unfolding(crate::specs::Form::form_fault))]
+pub fn form(book: &[u8]) -> Result<(), Refusal>
     ensures { result ≡ form_fault book.now }
 {
-    if let Verdict::Refused(number, place) = lengths(book) {
-        return Verdict::Refused(number, place);
-    }
+    lengths(book)?;
     blocks_fault(book)
 }

@@ -6,7 +6,6 @@ ghost use Rattle.layout.specs.Form.{edition_of, offer_count, own_bytes};
 use crate::form::form;
 use block::SIZE;
 use sections::{PLACE_SIZE, PLACES, PLACES_FROM};
-use values::Verdict;
 use values::head::{edition_in, offers_in};
 
 // The edition that a book states.
@@ -39,10 +38,7 @@ pub fn row_bytes(book: &[u8], first: usize, row: usize) -> &[u8]
 pub fn own_bytes(book: &[u8], row: usize) -> &[u8]
     ensures { result.now ≡ own_bytes book.now row }
 {
-    if let Verdict::Refused(_, _) = form(book) {
-        return &book[0..0];
-    }
-    if row < offer_count(book) as usize {
+    if form(book).is_ok() && row < offer_count(book) as usize {
         row_bytes(book, 1, row)
     } else {
         &book[0..0]

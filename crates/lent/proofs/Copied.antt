@@ -8,9 +8,8 @@ use Prim.Native.Nat.{ℕ, ◌≤◌, ◌<◌}
 use native.Mathlib.Omega.{arith}
 use lib.ListN.{length, get_or, take, drop, length-map, get_or-map}
 use lib.Seq.{length-take-le, get_or-take, ext_get_or}
+use Rattle.std.specs.Prelude.{Err, Ok}
 use Rattle.values.specs.Contents.{no_offer, offer_at}
-use Rattle.values.specs.declared.Verdict.{Verdict}
-use Rattle.values.specs.declared.Verdict.TheVariants.{Passed, Refused}
 use Rattle.block.specs.Bytes.{byte}
 use Rattle.layout.specs.Read.{contents_of}
 use Rattle.book.specs.Faults.{sound_fault}
@@ -24,6 +23,7 @@ use Rattle.listing.proofs.Reread.{parameters-again, offer-again, get_d-filled}
 use Rattle.words.specs.Texts.{text_given}
 use Rattle.lent.specs.Wrote.{Wrote}
 use Rattle.lent.proofs.Written.{sound-written}
+use Rattle.values.specs.Refusals.{Verdict, no_fault}
 
 module _ (b : List ℕ) (rows : List OzpRow) where
   abbrev n : ℕ
@@ -48,12 +48,12 @@ module _ (b : List ℕ) (rows : List OzpRow) where
       length-map shown offer_in ∙ length-take-le n (filled_rows (row_out b) n rows) (omega (arith, length-filled (row_out b) n rows)) in
       ext_get_or no_offer (map offer_in shown) (contents_of b).offers count (λ i l. row-again i (rw count at l) long)
 
-  passed-by : (v : Verdict) (c : OzpContents) → (contents_by v c).kind ≡ 1 → v ≡ Passed
-  passed-by Passed c e = refl
-  passed-by (Refused number place) c e = absurd (omega (arith, e))
+  passed-by : (v : Verdict) (c : OzpContents) → (contents_by v c).kind ≡ 1 → v ≡ no_fault
+  passed-by (Ok u) c e = refl
+  passed-by (Err refusal) c e = absurd (omega (arith, e))
 
   module _ {r : OzpContents} {rows' : List OzpRow} (read : Read b rows r rows') (given : r.kind ≡ 1) where
-    passed : read_fault b (length rows) ≡ Passed
+    passed : read_fault b (length rows) ≡ no_fault
     unfolding exported_contents
     passed = passed-by (read_fault b (length rows)) _ (sym (ap (λ (c : OzpContents). c.kind) read.contents) ∙ given)
 
@@ -78,7 +78,7 @@ module _ (b : List ℕ) (rows : List OzpRow) where
         })
 
     -- Of a sound book that is read, the call writes back the same bytes wherever there is room for them.
-    pub read-written-back : ((i : ℕ) → i < length b → byte b i < 256) → sound_fault b ≡ Passed
+    pub read-written-back : ((i : ℕ) → i < length b → byte b i < 256) → sound_fault b ≡ no_fault
         → (room : List ℕ) {s : OzpText} {room' : List ℕ} → length b ≤ length room
         → Wrote (contents_in r.edition r.parameters (take r.rows rows')) room s room'
         → (s ≡ text_given (length b)) × (room' ≡ b ++ drop (length b) room)

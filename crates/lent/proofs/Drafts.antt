@@ -10,9 +10,8 @@ use native.Mathlib.Omega.{arith}
 use lib.ListN.{length, get_or, take, drop}
 use lib.Seq.{get_or-take, get_or-drop}
 use borrow.Author.Tests.{lt-ltb, le-ltb}
+use Rattle.std.specs.Prelude.{Err}
 use Rattle.values.specs.Contents.{offer_at}
-use Rattle.values.specs.declared.Verdict.{Verdict}
-use Rattle.values.specs.declared.Verdict.TheVariants.{Passed, Refused}
 use Rattle.values.specs.declared.place.Offer.{Offer}
 use Rattle.values.proofs.Firsts.{first-refused, first-stays}
 use Rattle.repeats.specs.inner.Repeats.{first_repeat}
@@ -22,6 +21,8 @@ use Rattle.limits.proofs.Tested.{row_fault-row}
 use Rattle.limits.proofs.Lowest.{by_first}
 use Rattle.lent.specs.inner.Drafts.{repeated_in}
 use Rattle.lent.specs.declared.tested.Draft.{Draft}
+use Rattle.values.specs.Refusals.{place_of, repeated_resource, Verdict, no_fault}
+use Rattle.values.specs.declared.refusal.Refusal.{Refusal}
 
 -- ---- how far rows pass
 
@@ -33,8 +34,8 @@ module _ (edition : ℕ) (offers : List Offer) where
   values i = values_fault false edition (offer_at offers) i
 
   -- a refusal names the row that is refused
-  named : (row number place : ℕ) → test row ≡ Refused number place → place ≡ row
-  named row number place t = row_fault-row false edition (offer_at offers (row - 1)) (offer_at offers row) row number place t
+  named : (row : ℕ) (refusal : Refusal) → test row ≡ Err refusal → place_of refusal ≡ row
+  named row refusal t = row_fault-row false edition (offer_at offers (row - 1)) (offer_at offers row) row refusal t
 
   -- a row that is refused is one of them
   pub refused-within : (n i : ℕ) → i ≤ n → rows_before (values i) n ≤ n
@@ -42,22 +43,22 @@ module _ (edition : ℕ) (offers : List Offer) where
   refused-within n i l =
       by_first test i
       (λ e. rw e (omega arith))
-      (λ row number place h e t. rw (first-refused test i row number place h e t, named row number place t) (omega arith))
+      (λ row refusal h e t. rw (first-refused test i row refusal h e t, named row refusal t) (omega arith))
 
   -- where the first i rows are tested and more are left, these pass
-  pub passed-before : (n i : ℕ) → i < rows_before (values i) n → values i ≡ Passed
+  pub passed-before : (n i : ℕ) → i < rows_before (values i) n → values i ≡ no_fault
   unfolding values_fault
   passed-before n i l =
       by_first test i
       (λ e. e)
-      (λ row number place h e t.
-      let there : i < place = rw (first-refused test i row number place h e t) at l in
-      absurd (omega (arith, named row number place t, there, h)))
+      (λ row refusal h e t.
+      let there : i < place_of refusal = rw (first-refused test i row refusal h e t) at l in
+      absurd (omega (arith, named row refusal t, there, h)))
 
   -- what is refused among i rows is refused among more
-  pub refused-stays : (i m number place : ℕ) → i ≤ m → values i ≡ Refused number place → values m ≡ Refused number place
+  pub refused-stays : (i m : ℕ) (refusal : Refusal) → i ≤ m → values i ≡ Err refusal → values m ≡ Err refusal
   unfolding values_fault
-  refused-stays i m number place l e = first-stays test i m number place l e
+  refused-stays i m refusal l e = first-stays test i m refusal l e
 
 -- ---- a repeat
 
@@ -75,7 +76,7 @@ module _ (d : Draft) (kept : List ℕ) where
 
   module _ {repeat : ℕ} (e : repeat ≡ first_repeat (λ row. get_or kept row 0) (λ row. get_or kept (length kept / 2 + row) 0) d.rows) where
     -- there is one
-    pub repeated-here : repeat < d.rows → Refused 8 repeat ≡ repeated_in d kept
+    pub repeated-here : repeat < d.rows → repeated_resource repeat ≡ repeated_in d kept
     unfolding repeated_in
     repeated-here l = rw (← e, lt-ltb repeat d.rows l) refl
 

@@ -11,10 +11,10 @@ use lib.Dec.{leb}
 use lib.ListN.{length, take}
 use lib.Seq.{take_all}
 use borrow.Author.Tests.{leb-true}
+use Rattle.std.specs.Prelude.{Err}
 use Rattle.values.specs.Contents.{Contents, offer_at}
-use Rattle.values.specs.Refusals.{unless, short_room, buffer_by}
-use Rattle.values.specs.declared.Verdict.{Verdict}
-use Rattle.values.specs.declared.Verdict.TheVariants.{Passed, Refused}
+use Rattle.values.specs.declared.refusal.Refusal.TheVariants.{ShortRoom}
+use Rattle.values.specs.Refusals.{unless, short_room, buffer_by, Verdict, no_fault}
 use Rattle.values.specs.declared.head.Parameters.{Parameters}
 use Rattle.values.specs.declared.place.Offer.{Offer}
 use Rattle.values.proofs.Firsts.{unless-passed, and_then-left, and_then-right}
@@ -37,6 +37,7 @@ use Rattle.lent.specs.inner.Rooms.{open_fault, Opened, Closed}
 use Rattle.lent.specs.declared.tested.Draft.{Draft}
 use Rattle.lent.proofs.Begins.{by-verdict, where-few, where-some}
 use Rattle.lent.proofs.Tables.{write-opening, rows-found, rows_left, faults-same}
+use Rattle.values.specs.declared.refusal.Refusal.{Refusal}
 
 module _ (c : Contents) (rows : ℕ) (many : length c.offers ≡ rows) (kept room : List ℕ) where
   abbrev edition : ℕ
@@ -70,14 +71,14 @@ module _ (c : Contents) (rows : ℕ) (many : length c.offers ≡ rows) (kept roo
       pub opened-few : o.rows ≤ u.rows
       opened-few = rw opened.answered (where-few fault u.rows)
 
-      opened-room : o.fault ≡ Passed → bytes_for o.rows ≤ length room
+      opened-room : o.fault ≡ no_fault → bytes_for o.rows ≤ length room
       unfolding open_fault
       opened-room e =
-          let passed : fault ≡ Passed = sym (ap (λ (x : Draft). x.fault) opened.answered) ∙ e in
+          let passed : fault ≡ no_fault = sym (ap (λ (x : Draft). x.fault) opened.answered) ∙ e in
           let all : o.rows ≡ u.rows = ap (λ (x : Draft). x.rows) opened.answered ∙ ap (λ (v : Verdict). rows_where v u.rows) passed in
-          rw all (leb-true (bytes_for u.rows) (length room) (unless-passed (leb (bytes_for u.rows) (length room)) 20 0 (and_then-right u.fault _ passed)))
+          rw all (leb-true (bytes_for u.rows) (length room) (unless-passed (leb (bytes_for u.rows) (length room)) ShortRoom (and_then-right u.fault _ passed)))
 
-      pub opened-long : (length room₁ ≡ length room) → o.fault ≡ Passed → bytes_for o.rows ≤ length room₁
+      pub opened-long : (length room₁ ≡ length room) → o.fault ≡ no_fault → bytes_for o.rows ≤ length room₁
       opened-long same e = omega (arith, same, opened-room e)
 
       pub opened-put : (length room₁ ≡ length room) → 0 < o.rows → bytes_for o.rows ≤ length room₁
@@ -92,10 +93,10 @@ module _ (c : Contents) (rows : ℕ) (many : length c.offers ≡ rows) (kept roo
         by-fault : (v : Verdict) → write_fault c (length room) ≡ v → o ≡ draft_by v u.rows t.before
         by-fault v e = opened.answered ∙ ap (λ (w : Verdict). draft_by w u.rows t.before) (same-fault ∙ e)
 
-        wrote-refused : (number place : ℕ) → write_fault c (length room) ≡ Refused number place → Wrote c room r room'
+        wrote-refused : (refusal : Refusal) → write_fault c (length room) ≡ Err refusal → Wrote c room r room'
         unfolding put_rows
-        wrote-refused number place e =
-            let same = by-fault (Refused number place) e in
+        wrote-refused refusal e =
+            let same = by-fault (Err refusal) e in
             let before : room₁ ≡ room = opened.room-holds ∙ ap (λ (w : Verdict). buffer_by w room (put room 0 (zeros 512))) (same-fault ∙ e) in
             record {
               answered = rw e (closed.answered ∙ ap (λ (x : Draft). text_by x.fault (text_given (bytes_for x.rows))) same);
@@ -107,12 +108,12 @@ module _ (c : Contents) (rows : ℕ) (many : length c.offers ≡ rows) (kept roo
                   ∙ ap₂ (λ (x : Draft) (s : List ℕ). put_rows s edition 0 (take x.rows offers)) same before);
             }
 
-        wrote-passed : write_fault c (length room) ≡ Passed → Wrote c room r room'
+        wrote-passed : write_fault c (length room) ≡ no_fault → Wrote c room r room'
         wrote-passed e =
-            let same = by-fault Passed e in
+            let same = by-fault no_fault e in
             let split = sym (write-opening c rows many kept room) ∙ e in
-            let passed : opening_fault edition p rows ≡ Passed = and_then-left (opening_fault edition p rows) _ split in
-            let sound : rows_fault false edition (offer_at offers) rows ≡ Passed = and_then-left _ room-fault (and_then-right (opening_fault edition p rows) _ split) in
+            let passed : opening_fault edition p rows ≡ no_fault = and_then-left (opening_fault edition p rows) _ split in
+            let sound : rows_fault false edition (offer_at offers) rows ≡ no_fault = and_then-left _ room-fault (and_then-right (opening_fault edition p rows) _ split) in
             let left : u.rows ≡ length offers = ap (λ (v : Verdict). rows_where v t.rows) (rows-found c rows many kept room t kept' long tested passed ∙ sound) ∙ rows_left c rows many kept room t kept' long tested passed sound ∙ sym many in
             let whole : o.rows ≡ length offers = ap (λ (x : Draft). x.rows) same ∙ left in
             let cleared : room₁ ≡ put room 0 (zeros 512) =

@@ -8,7 +8,6 @@ use lib.Dec.{eqb, leb}
 use borrow.Author.Tests.{eqb-true, le-leb}
 use Rattle.laws.proofs.Cases.{by-test, and-true, and_left, and_right}
 use Rattle.values.specs.declared.Value.TheVariants.{Given}
-use Rattle.values.specs.declared.Verdict.TheVariants.{Passed}
 use Rattle.values.specs.declared.place.Offer.{Offer}
 use Rattle.values.proofs.Firsts.{unless-true}
 use Rattle.limits.specs.Parameters.{within, given_within}
@@ -21,6 +20,7 @@ use Rattle.plain.specs.declared.structs.OzpRow.{OzpRow}
 use Rattle.lent.specs.inner.Alone.{price_passes, block_passes, passes_alone}
 use Rattle.lent.specs.inner.Drafts.{offer_before, tested_row}
 use Rattle.lent.specs.declared.tested.Draft.{Draft}
+use Rattle.values.specs.Refusals.{no_fault}
 
 -- a price that passes is given
 price-in : (price : OzpValue) → price_passes price ≡ true → value_in price ≡ Given price.number
@@ -76,14 +76,14 @@ module _ (row : OzpRow) (passes : passes_alone row ≡ true) where
       (step-one edition row.step one)))))
 
   -- neither 7 nor 10, whatever stands before it
-  pub alone-passes : (edition : ℕ) (before : Offer) (i : ℕ) → row_fault false edition before (offer_in row) i ≡ Passed
+  pub alone-passes : (edition : ℕ) (before : Offer) (i : ℕ) → row_fault false edition before (offer_in row) i ≡ no_fault
   unfolding offer_fault
   alone-passes edition before i =
       row_fault-first false edition before (offer_in row) i one ∙ unless-true _ _ (in-range edition)
 
   -- the draft past it, told from its numbers
   pub alone-tested : (edition : ℕ) (d : Draft) (i : ℕ)
-      → record { fault = Passed; rows = d.rows; before = record { resource = row.resource; price = Given row.price.number; step = row.step } }
+      → record { fault = no_fault; rows = d.rows; before = record { resource = row.resource; price = Given row.price.number; step = row.step } }
       ≡ tested_row edition d i (offer_in row)
   unfolding tested_row
   alone-tested edition d i =

@@ -7,10 +7,9 @@ use Prim.Native.Nat.{ℕ, ◌+◌, ◌/◌, ◌≤◌}
 use native.Mathlib.Omega.{arith}
 use lib.Dec.{leb}
 use lib.ListN.{length, get_or}
+use Rattle.std.specs.Prelude.{Err}
 use Rattle.values.specs.Contents.{Contents, offer_at}
-use Rattle.values.specs.Refusals.{unless, and_then, short_room}
-use Rattle.values.specs.declared.Verdict.{Verdict}
-use Rattle.values.specs.declared.Verdict.TheVariants.{Passed, Refused}
+use Rattle.values.specs.Refusals.{wrong_layout, too_many_rows, unless, and_then, short_room, Verdict, no_fault}
 use Rattle.values.specs.declared.head.Parameters.{Parameters}
 use Rattle.values.specs.declared.place.Offer.{Offer}
 use Rattle.layout.specs.Layout.{edition_known}
@@ -29,6 +28,7 @@ use Rattle.lent.specs.inner.Rooms.{open_fault}
 use Rattle.lent.specs.declared.tested.Draft.{Draft}
 use Rattle.lent.proofs.Drafts.{refused-within}
 use Rattle.lent.proofs.Begins.{by-verdict, five, unrepeated, no_rows, where-few}
+use Rattle.values.specs.declared.refusal.Refusal.{Refusal}
 
 module _ (c : Contents) (rows : ℕ) (many : length c.offers ≡ rows) (kept room : List ℕ) where
   abbrev edition : ℕ
@@ -50,7 +50,7 @@ module _ (c : Contents) (rows : ℕ) (many : length c.offers ≡ rows) (kept roo
   pub write-opening : write_fault c (length room) ≡ and_then (opening_fault edition p rows) (and_then (rows_fault false edition (offer_at offers) rows) room-fault)
   unfolding write_fault edition_fault count_fault given_fault opening_fault
   write-opening =
-      rw many (five (unless (edition_known edition) (Refused 3 0)) (unless (leb rows 600) (Refused 19 0)) (range_fault p) (rows_fault false edition (offer_at offers) rows) room-fault)
+      rw many (five (unless (edition_known edition) (wrong_layout 0)) (unless (leb rows 600) too_many_rows) (range_fault p) (rows_fault false edition (offer_at offers) rows) room-fault)
 
   module _ (t : Draft) (kept' : List ℕ) (long : length kept' ≡ length kept) (tested : RowsTested edition offers d kept t kept') where
     -- no more rows are left than there were
@@ -70,14 +70,14 @@ module _ (c : Contents) (rows : ℕ) (many : length c.offers ≡ rows) (kept roo
     -- ---- the faults
 
     -- refused before the rows
-    faults-opening : (number place : ℕ) → opening_fault edition p rows ≡ Refused number place → fault ≡ Refused number place
+    faults-opening : (refusal : Refusal) → opening_fault edition p rows ≡ Err refusal → fault ≡ Err refusal
     unfolding open_fault draft_of
-    faults-opening number place e =
-        let v : t.fault ≡ Refused number place = tested.fault ∙ rw e refl in
+    faults-opening refusal e =
+        let v : t.fault ≡ Err refusal = tested.fault ∙ rw e refl in
         let none : t.rows ≡ 0 = omega (arith, tested-most, ap (λ (v : Verdict). rows_where v rows) e) in
         rw (no_rows t kept' none ∙ v) refl
 
-    module _ (passed : opening_fault edition p rows ≡ Passed) where
+    module _ (passed : opening_fault edition p rows ≡ no_fault) where
       all : d.rows ≡ rows
       unfolding draft_of
       all = ap (λ (v : Verdict). rows_where v rows) passed
@@ -102,7 +102,7 @@ module _ (c : Contents) (rows : ℕ) (many : length c.offers ≡ rows) (kept roo
           (λ row l. tested.resources row (rw limit l)) (λ row l. tested.steps row (rw limit l))))
 
       -- where there is none, all rows are left
-      pub rows_left : rows_fault false edition (offer_at offers) rows ≡ Passed → t.rows ≡ rows
+      pub rows_left : rows_fault false edition (offer_at offers) rows ≡ no_fault → t.rows ≡ rows
       rows_left e = limit ∙ ap (λ (v : Verdict). rows_before v rows) (sym found ∙ unrepeated t kept' (rows-found ∙ e))
 
       faults-rows : fault ≡ and_then (rows_fault false edition (offer_at offers) rows) room-fault
@@ -111,11 +111,11 @@ module _ (c : Contents) (rows : ℕ) (many : length c.offers ≡ rows) (kept roo
           ap (λ (v : Verdict). and_then v (unless (leb (bytes_for (rows_where v t.rows)) (length room)) short_room)) rows-found
           ∙ by-verdict (rows_fault false edition (offer_at offers) rows)
           (λ e. rw e (ap (λ (k : ℕ). unless (leb k (length room)) short_room) (ap bytes_for (rows_left e ∙ sym many) ∙ sym (encode-length c))))
-          (λ number place e. rw e refl)
+          (λ refusal e. rw e refl)
 
     -- what is refused is what the table refuses
     pub faults-same : fault ≡ write_fault c (length room)
     faults-same =
         by-verdict (opening_fault edition p rows)
         (λ e. faults-rows e ∙ sym (write-opening ∙ ap (λ (v : Verdict). and_then v (and_then (rows_fault false edition (offer_at offers) rows) room-fault)) e))
-        (λ number place e. faults-opening number place e ∙ sym (write-opening ∙ rw e refl))
+        (λ refusal e. faults-opening refusal e ∙ sym (write-opening ∙ rw e refl))

@@ -9,11 +9,10 @@ use Prim.Native.Nat.{ℕ, zero, suc, ◌+◌, ◌-◌, ◌/◌, ◌≤◌, ◌<�
 use native.Mathlib.Omega.{arith}
 use lib.ListN.{length, get_or, set, length-set}
 use lib.Seq.{get_or-set_same, get_or-set_other}
+use Rattle.std.specs.Prelude.{Err, Ok}
 use Rattle.laws.proofs.Cases.{by-equality}
 use Rattle.values.specs.Contents.{offer_at}
-use Rattle.values.specs.Refusals.{and_then, first}
-use Rattle.values.specs.declared.Verdict.{Verdict}
-use Rattle.values.specs.declared.Verdict.TheVariants.{Passed, Refused}
+use Rattle.values.specs.Refusals.{and_then, first, Verdict, no_fault}
 use Rattle.values.specs.declared.place.Offer.{Offer}
 use Rattle.values.proofs.Firsts.{and_then-next, first-zero, first-suc}
 use Rattle.steps.specs.Steps.{step_follows, step_holds}
@@ -103,7 +102,7 @@ module _ (edition : ℕ) (offers : List Offer) (d : Draft) (kept : List ℕ) whe
     steps = λ row l. absurd (omega arith);
   }
 
-  module _ (room : n ≤ half) (unrefused : 0 < n → d.fault ≡ Passed) (i : ℕ) (t : Tested i) where
+  module _ (room : n ≤ half) (unrefused : 0 < n → d.fault ≡ no_fault) (i : ℕ) (t : Tested i) where
     -- the row before the next is the one that was tested last
     row-own : row_fault false edition (offer_before (draft_at i).before) (offer_at offers i) i ≡ test i
     row-own = own i t.before
@@ -120,7 +119,7 @@ module _ (edition : ℕ) (offers : List Offer) (d : Draft) (kept : List ℕ) whe
     pub tested-more : i < (draft_at i).rows → Tested (suc i)
     unfolding draft_at kept_at kept_row tested_row values_fault
     tested-more left =
-        let passed : values i ≡ Passed = passed-before edition offers n i (rw t.rows at left) in
+        let passed : values i ≡ no_fault = passed-before edition offers n i (rw t.rows at left) in
         let all : (draft_at i).rows ≡ n = t.rows ∙ ap (λ (v : Verdict). rows_before v n) passed in
         let inside : i < n = omega (arith, all, left) in
         let next : values (suc i) ≡ row_fault false edition (offer_before (draft_at i).before) (offer_at offers i) i =
@@ -159,8 +158,8 @@ module _ (edition : ℕ) (offers : List Offer) (d : Draft) (kept : List ℕ) whe
       }
     where
       own : (v : Verdict) → values i ≡ v → rows_before v n ≤ i → v ≡ values n
-      own Passed e l = let whole : i ≡ n = omega (arith, t.within, l) in sym e ∙ ap values whole
-      own (Refused number place) e l = sym (refused-stays edition offers i n number place t.within e)
+      own (Ok u) e l = let whole : i ≡ n = omega (arith, t.within, l) in sym e ∙ ap values whole
+      own (Err refusal) e l = sym (refused-stays edition offers i n refusal t.within e)
 
       all : values i ≡ values n
       all = own (values i) refl (rw t.rows at none)

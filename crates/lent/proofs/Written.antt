@@ -11,10 +11,9 @@ use lib.Dec.{leb}
 use lib.ListN.{length, take, drop}
 use lib.Seq.{take-append_seam}
 use borrow.Author.Tests.{le-leb}
+use Rattle.std.specs.Prelude.{Err}
 use Rattle.values.specs.Contents.{Contents}
-use Rattle.values.specs.Refusals.{short_room, buffer_by}
-use Rattle.values.specs.declared.Verdict.{Verdict}
-use Rattle.values.specs.declared.Verdict.TheVariants.{Passed, Refused}
+use Rattle.values.specs.Refusals.{number_of, place_of, short_room, buffer_by, Verdict, no_fault}
 use Rattle.values.proofs.Firsts.{unless-true, and_then-next, and_then-left, and_then-right}
 use Rattle.block.specs.Bytes.{byte}
 use Rattle.layout.specs.Read.{contents_of}
@@ -33,25 +32,26 @@ use Rattle.words.specs.Texts.{text_given, text_refused, text_by}
 use Rattle.words.proofs.Answered.{refused-by, passed-by}
 use Rattle.lent.specs.Wrote.{Wrote}
 use Rattle.lent.proofs.Writes.{given-passed, passed-fits}
+use Rattle.values.specs.declared.refusal.Refusal.{Refusal}
 
 -- ---- one call
 
 module _ (c : Contents) (room : List ℕ) {r : OzpText} {room' : List ℕ} (w : Wrote c room r room') where
   -- Where the table refuses, the call does, by the same number at the same place, and leaves the room as it was.
-  pub write-refused : (number place : ℕ) → write_fault c (length room) ≡ Refused number place
-      → (r ≡ text_refused number place) × (room' ≡ room)
-  write-refused number place e = (
+  pub write-refused : (refusal : Refusal) → write_fault c (length room) ≡ Err refusal
+      → (r ≡ text_refused (number_of refusal) (place_of refusal)) × (room' ≡ room)
+  write-refused refusal e = (
     w.answered ∙ ap (λ (v : Verdict). text_by v (text_given (length (encode c)))) e,
     w.room-holds ∙ ap (λ (v : Verdict). buffer_by v room (encode c ++ drop (length (encode c)) room)) e,
   )
 
   -- Where the call refuses, the table does.
-  pub write-refused-only : (number place : ℕ) → r ≡ text_refused number place → write_fault c (length room) ≡ Refused number place
-  write-refused-only number place e =
-      refused-by (write_fault c (length room)) (length (encode c)) number place (sym w.answered ∙ e)
+  pub write-refused-only : (refusal : Refusal) → r ≡ text_refused (number_of refusal) (place_of refusal) → write_fault c (length room) ≡ Err refusal
+  write-refused-only refusal e =
+      refused-by (write_fault c (length room)) (length (encode c)) refusal (sym w.answered ∙ e)
 
   -- Where the table refuses nothing, the call writes.
-  pub write-passed : write_fault c (length room) ≡ Passed
+  pub write-passed : write_fault c (length room) ≡ no_fault
       → (r ≡ text_given (length (encode c))) × (room' ≡ encode c ++ drop (length (encode c)) room)
   write-passed e = (
     w.answered ∙ ap (λ (v : Verdict). text_by v (text_given (length (encode c)))) e,
@@ -60,7 +60,7 @@ module _ (c : Contents) (room : List ℕ) {r : OzpText} {room' : List ℕ} (w : 
 
   module _ (written : r.kind ≡ 1) where
     -- Where the call wrote, the table refuses nothing.
-    pub write-passed-only : write_fault c (length room) ≡ Passed
+    pub write-passed-only : write_fault c (length room) ≡ no_fault
     write-passed-only =
         passed-by (write_fault c (length room)) (length (encode c)) (sym (ap (λ (t : OzpText). t.kind) w.answered) ∙ written)
 
@@ -79,7 +79,7 @@ module _ (c : Contents) (room : List ℕ) {r : OzpText} {room' : List ℕ} (w : 
       written_read = ap contents_of written-bytes ∙ read-encoded c wrote-fits
 
       -- What was written is a sound book.
-      pub written-sound : sound_fault (take r.bytes room') ≡ Passed
+      pub written-sound : sound_fault (take r.bytes room') ≡ no_fault
       unfolding sound_fault
       written-sound =
           and_then-next (form_fault (take r.bytes room')) _ (ap form_fault written-bytes ∙ encode-form c wrote-fits)
@@ -101,20 +101,20 @@ written_once c d room other w x e f fit gif same =
 
 module _ (b : List ℕ) (bytes : (i : ℕ) → i < length b → byte b i < 256) where
   -- Of a book that passes 1 to 3, what was read is written back as the same bytes, if it is written.
-  pub read-written : form_fault b ≡ Passed → (room : List ℕ) {r : OzpText} {room' : List ℕ}
+  pub read-written : form_fault b ≡ no_fault → (room : List ℕ) {r : OzpText} {room' : List ℕ}
       → Wrote (contents_of b) room r room' → r.kind ≡ 1 → take r.bytes room' ≡ b
   read-written passed room w e = written-bytes (contents_of b) room w e ∙ encode-read b bytes passed
 
   -- Of a sound book it is written, wherever there is room.
-  pub sound-written : sound_fault b ≡ Passed → (room : List ℕ) {r : OzpText} {room' : List ℕ} → length b ≤ length room
+  pub sound-written : sound_fault b ≡ no_fault → (room : List ℕ) {r : OzpText} {room' : List ℕ} → length b ≤ length room
       → Wrote (contents_of b) room r room' → (r ≡ text_given (length b)) × (room' ≡ b ++ drop (length b) room)
   unfolding sound_fault write_fault edition_fault count_fault
   sound-written sound room long w =
-      let formed : form_fault b ≡ Passed = and_then-left (form_fault b) _ sound in
+      let formed : form_fault b ≡ no_fault = and_then-left (form_fault b) _ sound in
       let same : encode (contents_of b) ≡ b = encode-read b bytes formed in
       let fits : Fits (contents_of b) = read_fits b bytes formed in
       let room_for : length (encode (contents_of b)) ≤ length room = rw same long in
-      let passed : write_fault (contents_of b) (length room) ≡ Passed =
+      let passed : write_fault (contents_of b) (length room) ≡ no_fault =
       and_then-next (edition_fault (contents_of b)) _ (unless-true _ _ fits.edition)
       ∙ and_then-next (count_fault (contents_of b)) _ (unless-true _ _ (le-leb _ 600 fits.few))
       ∙ and_then-next (given_fault (contents_of b)) _ (and_then-right (form_fault b) _ sound)

@@ -22,13 +22,11 @@ fn block_passes(block: OzpValue, quantity: u32) -> bool
 pub(crate) fn passes_alone(row: OzpRow) -> bool
     ensures { result ≡ passes_alone row }
 {
-    let price = row.price;
-    let block = row.block;
     (1 <= row.resource)
         & (1 <= row.seller)
-        & price_passes(price)
+        & price_passes(row.price)
         & (1 <= row.quantity)
         & (row.quantity <= 200000)
-        & block_passes(block, row.quantity)
+        & block_passes(row.block, row.quantity)
         & (row.step == 1)
 }

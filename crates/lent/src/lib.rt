@@ -7,18 +7,18 @@ mod row;
 pub mod tested;
 
 ghost use Rattle.std.specs.Prelude.{◌≡◌, ◌+◌, ◌*◌, ◌/◌, ◌≤◌, ◌<◌, length};
-ghost use Rattle.values.specs.declared.Verdict.TheVariants.{Passed};
 ghost use Rattle.making.specs.inner.Made.{bytes_for};
 ghost use Rattle.places.specs.inner.Rows.{put_row};
 ghost use Rattle.plain.specs.Given.{parameters_in, offer_in};
 ghost use Rattle.lent.specs.inner.Rooms.{Opened, Closed};
+ghost use Rattle.values.specs.Refusals.{no_fault};
 
 use crate::tested::{Draft, drafted};
 use block::SIZE;
 use making::{bytes_for, put_zeros};
 use plain::given::{offer_in, parameters_in};
 use plain::structs::{OzpParameters, OzpRow, OzpText};
-use values::Verdict;
+use values::Refusal;
 use words::{given, refused};
 
 // The last refusal of a book whose rows are tested: 20. Where nothing refuses it the first block, in which no row stands, is cleared,
@@ -27,17 +27,16 @@ pub fn open_room(d: Draft, room: &mut [u8]) -> Draft
     requires { d.rows ≤ 600 }
     ensures { Opened d room.old result room.new }
 {
-    let before = d.before;
-    let fault = d.fault;
-    if let Verdict::Refused(number, place) = fault {
-        return drafted(Verdict::Refused(number, place), d.rows, before);
+    if d.fault.is_err() {
+        return drafted(d.fault, d.rows, d.before);
     }
+    // Named for the wrong program room_touched_before_20, which tests the room against another number.
     let bytes = bytes_for(d.rows);
     if room.len() < bytes {
-        return drafted(Verdict::Refused(20, 0), d.rows, before);
+        return drafted(Err(Refusal::ShortRoom), d.rows, d.before);
     }
     put_zeros(room, 0, SIZE);
-    drafted(Verdict::Passed, d.rows, before)
+    d
 }
 
 // Puts a row into its place of the room.
@@ -50,14 +49,12 @@ pub fn put_row(room: &mut [u8], edition: u32, i: usize, row: OzpRow)
 
 // Makes the book around the rows that stand in the room, where nothing refuses it, and answers how many bytes it has.
 pub fn close_room(d: Draft, edition: u32, parameters: OzpParameters, room: &mut [u8]) -> OzpText
-    requires { (d.rows ≤ 600) × (d.fault ≡ Passed → bytes_for d.rows ≤ length room.old) }
+    requires { (d.rows ≤ 600) × (d.fault ≡ no_fault → bytes_for d.rows ≤ length room.old) }
     ensures { Closed edition (parameters_in parameters) d room.old result room.new }
 {
-    let fault = d.fault;
-    if let Verdict::Refused(number, place) = fault {
-        return refused(number, place);
+    if let Err(refusal) = d.fault {
+        return refused(refusal.number(), refusal.place());
     }
-    let rows = d.rows;
-    making::put_book(room, edition, parameters_in(parameters), rows);
-    given(bytes_for(rows) as u64)
+    making::put_book(room, edition, parameters_in(parameters), d.rows);
+    given(bytes_for(d.rows) as u64)
 }

@@ -7,7 +7,7 @@ use crate::row::past_row;
 use plain::given::parameters_in;
 use plain::structs::{OzpParameters, OzpRow};
 use repeats::first_repeat;
-use values::{Value, Verdict};
+use values::{Refusal, Value};
 use writer::opening_fault;
 
 // What the next row is tested against: the number, the price and the step of the row before it.
@@ -22,23 +22,23 @@ pub struct Before {
 // refused before its rows are looked at, and where a row is refused are those before it; what the next row is tested against.
 #[derive(Clone, Copy)]
 pub struct Draft {
-    pub fault: Verdict,
+    pub fault: Result<(), Refusal>,
     pub rows: usize,
     pub before: Before,
 }
 
 // So many rows where nothing is refused, and else none.
-fn rows_where(fault: Verdict, rows: usize) -> usize
+fn rows_where(fault: Result<(), Refusal>, rows: usize) -> usize
     ensures { result ≡ rows_where fault rows }
 {
     match fault {
-        Verdict::Passed => rows,
-        Verdict::Refused(_, _) => 0,
+        Ok(()) => rows,
+        Err(_) => 0,
     }
 }
 
 // A draft with this fault, of whose rows none are left where there is one.
-pub(crate) fn drafted(fault: Verdict, rows: usize, before: Before) -> Draft
+pub(crate) fn drafted(fault: Result<(), Refusal>, rows: usize, before: Before) -> Draft
     ensures { result ≡ draft_by fault rows before }
 {
     Draft {
@@ -73,18 +73,16 @@ pub fn test_row(d: Draft, edition: u32, i: usize, row: OzpRow, kept: &mut [u32])
 }
 
 // The first fault of a book whose rows are tested for 7 and 10: a repeat among the rows before the one refused comes first.
-fn repeat_fault(d: Draft, kept: &[u32]) -> Verdict
+fn repeat_fault(d: Draft, kept: &[u32]) -> Result<(), Refusal>
     requires { (d.rows ≤ length kept.now / 2) × (d.rows ≤ 600) }
     ensures { result ≡ repeated_in d kept.now }
 {
-    let rows = d.rows;
     let half = kept.len() / 2;
-    let repeat = first_repeat(&kept[0..half], &kept[half..], rows);
-    if repeat < rows {
-        return Verdict::Refused(8, repeat as u32);
+    let repeat = first_repeat(&kept[0..half], &kept[half..], d.rows);
+    if repeat < d.rows {
+        return Err(Refusal::RepeatedResource(repeat as u32));
     }
-    let fault = d.fault;
-    fault
+    d.fault
 }
 
 // A book whose rows are tested, with 8 of what was kept of them.
@@ -92,6 +90,5 @@ pub fn unrepeated(d: Draft, kept: &[u32]) -> Draft
     requires { (d.rows ≤ length kept.now / 2) × (d.rows ≤ 600) }
     ensures { result ≡ draft_by (repeated_in d kept.now) d.rows d.before }
 {
-    let before = d.before;
-    drafted(repeat_fault(d, kept), d.rows, before)
+    drafted(repeat_fault(d, kept), d.rows, d.before)
 }

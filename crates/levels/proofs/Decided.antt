@@ -2,33 +2,29 @@
 -- Assumes nothing.
 use mathlib.Core.Path.{◌≡◌, sym, ◌∙◌}
 use mathlib.Core.Bool.{Bool}
-use mathlib.Core.List.{List}
 use Prim.Native.Nat.{ℕ}
 use contract.Lifetimes.{Lfts}
 use denote.Ref.{Bor}
 use Rattle.curve.specs.Shape.{Shaped}
 use Rattle.curve.specs.declared.Curve.{Curve}
 use Rattle.curve.proofs.Prices.{curve-falls}
+use Rattle.levels.specs.declared.asks.Asks.{Asks}
 use Rattle.levels.specs.declared.level.Level.{Level}
 use Rattle.levels.proofs.Reaching.{level-alone}
-use Rattle.levels.proofs.supply.supply_at.Reads as supply-at
-use Rattle.levels.proofs.level.supply_below.Reads as supply_below
+use Rattle.levels.proofs.asks.Asks.supply_at.Reads as supply-at
+use Rattle.levels.proofs.asks.Asks.supply_below.Reads as supply_below
 use Rattle.levels.proofs.level.level_at.Reads as level-at
 use Rattle.levels.proofs.level.stops.Reads as stops
 
 -- what is offered at a price or below, by the contract of `supply_at`
-pub supply-at-decided : (κs : Lfts 2) (prices quantities : Bor (List ℕ)) (n limit r s : ℕ)
-    → supply-at.Post κs (prices, (quantities, (n, (limit, tt)))) r (prices, (quantities, (n, (limit, tt))))
-    → supply-at.Post κs (prices, (quantities, (n, (limit, tt)))) s (prices, (quantities, (n, (limit, tt))))
-    → r ≡ s
-supply-at-decided κs prices quantities n limit r s e f = e.0 ∙ sym f.0
+pub supply-at-decided : (κs : Lfts 2) (asks : Bor Asks) (limit r s : ℕ)
+    → supply-at.Post κs (asks, (limit, tt)) r (asks, (limit, tt)) → supply-at.Post κs (asks, (limit, tt)) s (asks, (limit, tt)) → r ≡ s
+supply-at-decided κs asks limit r s e f = e.0 ∙ sym f.0
 
 -- what is offered strictly below a price, by the contract of `supply_below`
-pub supply-below-decided : (κs : Lfts 2) (prices quantities : Bor (List ℕ)) (n price r s : ℕ)
-    → supply_below.Post κs (prices, (quantities, (n, (price, tt)))) r (prices, (quantities, (n, (price, tt))))
-    → supply_below.Post κs (prices, (quantities, (n, (price, tt)))) s (prices, (quantities, (n, (price, tt))))
-    → r ≡ s
-supply-below-decided κs prices quantities n price r s e f = e.0 ∙ sym f.0
+pub supply-below-decided : (κs : Lfts 2) (asks : Bor Asks) (price r s : ℕ)
+    → supply_below.Post κs (asks, (price, tt)) r (asks, (price, tt)) → supply_below.Post κs (asks, (price, tt)) s (asks, (price, tt)) → r ≡ s
+supply-below-decided κs asks price r s e f = e.0 ∙ sym f.0
 
 -- the level at a price, by the contract of `level_at`
 pub level-at-decided : (c : Curve) (price below reach guess : ℕ) (r s : Level) → Shaped c

@@ -1,3 +1,4 @@
 pub mod Rows
+pub mod Asks
 pub mod Reach
 pub mod Stop

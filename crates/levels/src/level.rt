@@ -1,15 +1,11 @@
 // A price level: what is offered below it, the total that the curve reaches at it, and whether that total stops there.
 ghost use Rattle.std.specs.Prelude.{◌≡◌, ◌≤◌};
-ghost use Rattle.auction.specs.Offers.{supply_below};
 ghost use Rattle.curve.specs.Shape.{Shaped};
 ghost use Rattle.curve.specs.Price.{demand_of};
-ghost use Rattle.levels.specs.inner.Rows.{RowLists, listed};
 ghost use Rattle.levels.specs.inner.Reach.{LevelBetween, stops_there};
 
 use crate::reach::reached;
-use crate::supply::supply_at;
 use curve::Curve;
-use numbers::lesser;
 
 // The level at which a total stops: the total, the level's price, what it receives of the total, what is offered at it,
 // and what is offered at it or below.
@@ -22,28 +18,17 @@ pub struct Level {
     pub reach: u32,
 }
 
-// Everything offered strictly below a price.
-pub fn supply_below(prices: &[u32], quantities: &[u32], n: usize, price: u32) -> u32
-    requires { RowLists prices.now quantities.now n }
-    ensures { (result ≡ supply_below (listed prices.now quantities.now n) price) × (result ≤ 120000000) }
-{
-    if price == 0 {
-        return 0;
-    }
-    supply_at(prices, quantities, n, price - 1)
-}
-
 // The level at a price with the total that the curve reaches there, by what is offered strictly below it and what is offered at
 // it or below. Any guess of the total leads to the same level.
 pub fn level_at(c: Curve, price: u32, below: u32, reach: u32, guess: u32) -> Level
     requires { Shaped c × (below ≤ reach) × (below ≤ c.q3) }
     ensures { LevelBetween (demand_of c) price below reach result }
 {
-    let total = reached(c, price, below, lesser(reach, c.q3), guess);
+    let total = reached(c, price, below, reach.min(c.q3), guess);
     Level {
         total,
         price,
-        amount: lesser(total - below, reach - below),
+        amount: (total - below).min(reach - below),
         sum: reach - below,
         reach,
     }
@@ -53,8 +38,5 @@ pub fn level_at(c: Curve, price: u32, below: u32, reach: u32, guess: u32) -> Lev
 pub fn stops(level: Level) -> bool
     ensures { result ≡ stops_there level }
 {
-    if level.price == 1000000 {
-        return true;
-    }
-    level.total < level.reach
+    level.price == 1000000 || level.total < level.reach
 }

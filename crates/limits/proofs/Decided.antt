@@ -1,8 +1,9 @@
 -- The contracts of the limits leave one answer: any two that a contract allows for the same arguments coincide, wherever the
 -- bytes and the resource numbers lie.
 --
--- In order: the years that go by the margin, 4 by the marks and in a block 0, numbers within limits, 5, 4 and 5 of parameters
--- outside a book, the steps of an edition, 6 and 7 of an offer, 6, 7 and 10 of a row past step 1, 8.
+-- In order: the years that go by the margin, 4 by the marks and in a block 0, numbers within limits, the most of an offset, 5,
+-- 4 and 5 of parameters outside a book, the steps of an edition, 6 and 7 of an offer, 6, 7 and 10 of a row past step 1, the rows
+-- before a refused one, 8.
 -- Assumes nothing.
 use mathlib.Core.Path.{◌≡◌, sym, ap, ap₂, ◌∙◌}
 use mathlib.Core.Bool.{Bool}
@@ -13,7 +14,6 @@ use denote.Ref.{Bor}
 use lib.ListN.{get_or}
 use Rattle.values.specs.Head.{parameters_of}
 use Rattle.values.specs.declared.Value.{Value}
-use Rattle.values.specs.declared.Verdict.{Verdict}
 use Rattle.values.specs.declared.head.Parameters.{Parameters}
 use Rattle.values.specs.declared.place.Offer.{Offer}
 use Rattle.limits.specs.Parameters.{missing_fault}
@@ -23,12 +23,15 @@ use Rattle.limits.proofs.parameters.missing.Reads as missing
 use Rattle.limits.proofs.parameters.missing_in.Reads as missing-in
 use Rattle.limits.proofs.parameters.within.Reads as within
 use Rattle.limits.proofs.parameters.given_within.Reads as given-within
+use Rattle.limits.proofs.parameters.offset_most.Reads as offset-most
 use Rattle.limits.proofs.parameters.parameter_fault.Reads as parameter-fault
 use Rattle.limits.proofs.given.parameters_verdict.Reads as parameters-verdict
 use Rattle.limits.proofs.offers.step_within.Reads as step-within
 use Rattle.limits.proofs.offers.offer_fault.Reads as offer-fault
 use Rattle.limits.proofs.offers.past_fault.Reads as past-fault
+use Rattle.limits.proofs.repeated.rows_before.Reads as rows-before
 use Rattle.limits.proofs.repeated.with_repeats.Reads as with-repeats
+use Rattle.values.specs.Refusals.{Verdict}
 
 -- whether a year's curve goes by the margin, by the contract of `by_margin`
 pub by-margin-decided : (year : ℕ) (r s : Bool)
@@ -60,6 +63,11 @@ pub given-within-decided : (least most : ℕ) (v : Value) (r s : Bool)
     → given-within.Post tt (least, (most, (v, tt))) s (least, (most, (v, tt))) → r ≡ s
 given-within-decided least most v r s e f = e ∙ sym f
 
+-- the most of an offset, by the contract of `offset_most`
+pub offset-most-decided : (cost : Value) (r s : ℕ)
+    → offset-most.Post tt (cost, tt) r (cost, tt) → offset-most.Post tt (cost, tt) s (cost, tt) → r ≡ s
+offset-most-decided cost r s e f = e ∙ sym f
+
 -- 5, by the contract of `parameter_fault`
 pub parameter-fault-decided : (p : Parameters) (r s : Verdict)
     → parameter-fault.Post tt (p, tt) r (p, tt) → parameter-fault.Post tt (p, tt) s (p, tt) → r ≡ s
@@ -88,6 +96,11 @@ pub past-fault-decided : (needed : Bool) (edition : ℕ) (o : Offer) (follows : 
     → past-fault.Post tt (needed, (edition, (o, (follows, (row, tt))))) s (needed, (edition, (o, (follows, (row, tt)))))
     → r ≡ s
 past-fault-decided needed edition o follows row r s e f = e ∙ sym f
+
+-- how many rows stand before the refused one, by the contract of `rows_before`
+pub rows-before-decided : (found : Verdict) (n r s : ℕ)
+    → rows-before.Post tt (found, (n, tt)) r (found, (n, tt)) → rows-before.Post tt (found, (n, tt)) s (found, (n, tt)) → r ≡ s
+rows-before-decided found n r s e f = e ∙ sym f
 
 -- the first fault of n rows, by the contract of `with_repeats`
 pub with-repeats-decided : (κs : Lfts 2) (found : Verdict) (resources others steps counts : Bor (List ℕ)) (n : ℕ) (r s : Verdict)

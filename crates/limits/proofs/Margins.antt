@@ -6,9 +6,8 @@
 use mathlib.Core.Path.{◌≡◌, sym, ap, ◌∙◌}
 use mathlib.Core.Bool.{cond, true≢false}
 use Prim.Native.Nat.{ℕ, ◌≤◌}
-use Rattle.values.specs.Refusals.{missing_parameter, parameter_out_of_range, unless, and_then}
+use Rattle.values.specs.Refusals.{missing_parameter, parameter_out_of_range, unless, and_then, no_fault}
 use Rattle.values.specs.declared.Value.TheVariants.{Given, Missing}
-use Rattle.values.specs.declared.Verdict.TheVariants.{Passed}
 use Rattle.values.specs.declared.head.Parameters.{Parameters}
 use Rattle.limits.specs.Parameters.{within, given_within, by_margin, offset_most, missing_fault, range_fault}
 use Rattle.limits.specs.inner.Offers.{is_given}
@@ -17,7 +16,7 @@ use Rattle.limits.proofs.Passing.{parameters-margin}
 -- Where all else is given and the margin is missing, 4 is found at field 6 in the years that go by the margin, and in no other.
 pub margin-asked : (p : Parameters) {c e f r : ℕ}
     → p.cost ≡ Given c → p.offset ≡ Given e → p.outage ≡ Given f → p.requirement ≡ Given r → p.margin ≡ Missing
-    → missing_fault p ≡ cond (by_margin p.year) (missing_parameter 6) Passed
+    → missing_fault p ≡ cond (by_margin p.year) (missing_parameter 6) no_fault
 unfolding missing_fault
 margin-asked p c e f r m = simp (c, e, f, r, m)
 
@@ -28,11 +27,11 @@ pub margin-missing-sound : (p : Parameters) → p.margin ≡ Missing
     (and_then (unless (given_within 1 1000000 p.cost) (parameter_out_of_range 2))
     (and_then (unless (given_within 0 (offset_most p.cost) p.offset) (parameter_out_of_range 3))
     (and_then (unless (given_within 0 5000 p.outage) (parameter_out_of_range 4))
-    (and_then (unless (given_within 1000 2000000 p.requirement) (parameter_out_of_range 5)) Passed))))
+    (and_then (unless (given_within 1000 2000000 p.requirement) (parameter_out_of_range 5)) no_fault))))
 unfolding range_fault
 margin-missing-sound p m = simp m
 
 -- A margin that is given in a year from 2026 on does not pass 5, whatever it is.
-pub margin-late-refused : (p : Parameters) (margin : ℕ) → 2026 ≤ p.year → p.margin ≡ Given margin → range_fault p ≡ Passed → ⊥
+pub margin-late-refused : (p : Parameters) (margin : ℕ) → 2026 ≤ p.year → p.margin ≡ Given margin → range_fault p ≡ no_fault → ⊥
 margin-late-refused p margin late given passed =
     true≢false (ap is_given (sym given ∙ parameters-margin p passed late))

@@ -3,46 +3,42 @@
 -- In order: when two verdicts are the same; what the trailing zeros of the inverted marks say, tested at all 256 marks; the
 -- marks of a block 0 and its parameters.
 -- Assumes nothing.
-use mathlib.Core.Path.{◌≡◌, refl, ap₂}
-use mathlib.Core.Bool.{Bool, true, false, cond, ◌&&◌, false≢true}
+use mathlib.Core.Path.{◌≡◌, refl, ap}
+use mathlib.Core.Bool.{Bool, true, false, cond, false≢true}
 use mathlib.Core.List.{List}
 use Prim.Native.Nat.{ℕ, ◌+◌, ◌-◌, ◌<◌}
 use lib.Count.{count_trailing_zeros}
 use lib.Dec.{ltb, eqb}
 use lib.ListN.{get_or}
 use borrow.Author.Tests.{eqb-true}
+use Rattle.std.specs.Prelude.{Err, Ok}
 use Rattle.laws.specs.Sum.{every}
-use Rattle.laws.proofs.Cases.{and_left, and_right}
 use Rattle.laws.proofs.Everys.{every-at}
 use Rattle.block.specs.Bytes.{u16_at}
 use Rattle.values.specs.Values.{marked, value_of}
 use Rattle.values.specs.Head.{parameters_of}
-use Rattle.values.specs.Refusals.{missing_parameter, unless}
-use Rattle.values.specs.declared.Verdict.{Verdict}
-use Rattle.values.specs.declared.Verdict.TheVariants.{Passed, Refused}
+use Rattle.values.specs.Refusals.{missing_parameter, unless, Verdict, no_fault}
+use Rattle.values.specs.declared.refusal.Refusal.TheVariants.{MissingParameter}
 use Rattle.limits.specs.Parameters.{by_margin, field_fault, missing_fault}
 use Rattle.limits.specs.inner.Parameters.{values_needed, missing_marks}
 
 -- ---- two verdicts
 
 abbrev same : Verdict → Verdict → Bool
-same Passed Passed = true
-same Passed (Refused number place) = false
-same (Refused number place) Passed = false
-same (Refused m p) (Refused n q) = eqb m n && eqb p q
+same (Ok u) (Ok v) = true
+same (Err (MissingParameter m)) (Err (MissingParameter n)) = eqb m n
+same _ _ = false
 
 same-path : (v w : Verdict) → same v w ≡ true → v ≡ w
-same-path Passed Passed e = refl
-same-path Passed (Refused number place) e = absurd (false≢true e)
-same-path (Refused number place) Passed e = absurd (false≢true e)
-same-path (Refused m p) (Refused n q) e =
-    ap₂ Refused (eqb-true m n (and_left (eqb m n) (eqb p q) e)) (eqb-true p q (and_right (eqb m n) (eqb p q) e))
+same-path (Ok u) (Ok v) e = refl
+same-path (Err (MissingParameter m)) (Err (MissingParameter n)) e = ap missing_parameter (eqb-true m n e)
+same-path _ _ e = absurd (false≢true e)
 
 -- ---- the lowest unset mark
 
 -- what a number of set marks below the lowest unset one says, where so many values are needed
 abbrev pub at_gap : ℕ → ℕ → Verdict
-at_gap needed gap = cond (ltb gap needed) (missing_parameter (gap + 2)) Passed
+at_gap needed gap = cond (ltb gap needed) (missing_parameter (gap + 2)) no_fault
 
 -- by the marks, with the margin or without
 abbrev by_gap : Bool → ℕ → Verdict

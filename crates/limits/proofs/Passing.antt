@@ -11,12 +11,11 @@ use lib.Dec.{leb}
 use borrow.Author.Tests.{leb-true, le-leb, lt-leb}
 use Rattle.laws.proofs.Cases.{and_left, and_right, and-true}
 use Rattle.values.specs.Values.{held}
-use Rattle.values.specs.Refusals.{parameter_out_of_range, unless, and_then}
+use Rattle.values.specs.Refusals.{parameter_out_of_range, unless, and_then, Verdict, no_fault}
 use Rattle.values.specs.declared.Value.{Value}
 use Rattle.values.specs.declared.Value.TheVariants.{Given, Missing}
-use Rattle.values.specs.declared.Verdict.{Verdict}
-use Rattle.values.specs.declared.Verdict.TheVariants.{Passed}
 use Rattle.values.specs.declared.head.Parameters.{Parameters}
+use Rattle.values.specs.declared.refusal.Refusal.TheVariants.{ParameterOutOfRange}
 use Rattle.values.proofs.Firsts.{unless-passed, and_then-left, and_then-right}
 use Rattle.limits.specs.Parameters.{within, given_within, by_margin, field_fault, offset_most, margin_within, missing_fault, range_fault}
 use Rattle.limits.specs.Ranges.{Ranged}
@@ -73,11 +72,11 @@ record AllGiven (p : Parameters) : Type 0 where
   requirement : p.requirement ≡ Given (held p.requirement)
   margin : by_margin p.year ≡ true → p.margin ≡ Given (held p.margin)
 
-field_fault-given : (field : ℕ) (v : Value) → field_fault field v ≡ Passed → v ≡ Given (held v)
+field_fault-given : (field : ℕ) (v : Value) → field_fault field v ≡ no_fault → v ≡ Given (held v)
 field_fault-given field (Given number) e = refl
 field_fault-given field Missing e = cc
 
-all-given : (p : Parameters) → missing_fault p ≡ Passed → AllGiven p
+all-given : (p : Parameters) → missing_fault p ≡ no_fault → AllGiven p
 unfolding missing_fault
 all-given p e =
     let from3 = and_then-right (field_fault 2 p.cost) _ e in
@@ -102,11 +101,11 @@ record InRange (p : Parameters) : Type 0 where
   margin : margin_within p.year p.margin ≡ true
 
 range-passed : (t : Bool) (field : ℕ) (rest : Verdict)
-    → and_then (unless t (parameter_out_of_range field)) rest ≡ Passed → (t ≡ true) × (rest ≡ Passed)
+    → and_then (unless t (parameter_out_of_range field)) rest ≡ no_fault → (t ≡ true) × (rest ≡ no_fault)
 range-passed true field rest e = (refl, e)
 range-passed false field rest e = (cc, cc)
 
-in-range : (p : Parameters) → range_fault p ≡ Passed → InRange p
+in-range : (p : Parameters) → range_fault p ≡ no_fault → InRange p
 unfolding range_fault
 in-range p e =
     let y = range-passed (within 2022 2099 p.year) 1 _ e in
@@ -114,15 +113,15 @@ in-range p e =
     let o = range-passed (given_within 0 (offset_most p.cost) p.offset) 3 _ c.1 in
     let f = range-passed (given_within 0 5000 p.outage) 4 _ o.1 in
     let r = range-passed (given_within 1000 2000000 p.requirement) 5 _ f.1 in
-    let m = unless-passed (margin_within p.year p.margin) 5 6 r.1 in
+    let m = unless-passed (margin_within p.year p.margin) (ParameterOutOfRange 6) r.1 in
     record { year = y.0; cost = c.0; offset = o.0; outage = f.0; requirement = r.0; margin = m }
 
 -- Parameters of a year from 2026 on that 5 does not refuse have no margin.
-pub parameters-margin : (p : Parameters) → range_fault p ≡ Passed → 2026 ≤ p.year → p.margin ≡ Missing
+pub parameters-margin : (p : Parameters) → range_fault p ≡ no_fault → 2026 ≤ p.year → p.margin ≡ Missing
 parameters-margin p f late = margin-absent p.year p.margin (margin-late late) (in-range p f).margin
 
 -- Parameters that neither 4 nor 5 refuses are given and within their ranges.
-pub parameters-ranged : (p : Parameters) → missing_fault p ≡ Passed → range_fault p ≡ Passed → Ranged p
+pub parameters-ranged : (p : Parameters) → missing_fault p ≡ no_fault → range_fault p ≡ no_fault → Ranged p
 parameters-ranged p e f =
     let given = all-given p e in
     let test = in-range p f in

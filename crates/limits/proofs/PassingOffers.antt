@@ -12,13 +12,14 @@ use Rattle.laws.proofs.Cases.{and_left, and_right}
 use Rattle.values.specs.Values.{held}
 use Rattle.values.specs.declared.Value.{Value}
 use Rattle.values.specs.declared.Value.TheVariants.{Given, Missing}
-use Rattle.values.specs.declared.Verdict.TheVariants.{Passed}
 use Rattle.values.specs.declared.place.Offer.{Offer}
+use Rattle.values.specs.declared.refusal.Refusal.TheVariants.{OfferOutOfRange}
 use Rattle.values.proofs.Firsts.{unless-passed, and_then-left, and_then-right}
 use Rattle.limits.specs.Parameters.{within, given_within}
 use Rattle.limits.specs.Offers.{price_fault, step_within, offer_in_range, offer_fault}
 use Rattle.limits.specs.Ranges.{SoundOffer, PricedOffer}
 use Rattle.limits.proofs.Passing.{within-from, within-to, given-within}
+use Rattle.values.specs.Refusals.{no_fault}
 
 -- a step within the range of an edition, which is told by t
 step_range : (t : Bool) (step : ℕ) → cond t (eqb step 1) (within 1 10 step) ≡ true → (1 ≤ step) × (step ≤ 10)
@@ -60,17 +61,17 @@ offer-sound edition o e =
     }
 
 pub offer-in-range : (prices_needed : Bool) (edition : ℕ) (o : Offer) (row : ℕ)
-    → offer_fault prices_needed edition o row ≡ Passed → offer_in_range edition o ≡ true
+    → offer_fault prices_needed edition o row ≡ no_fault → offer_in_range edition o ≡ true
 unfolding offer_fault
 offer-in-range prices_needed edition o row e =
-    unless-passed (offer_in_range edition o) 7 row (and_then-right (cond prices_needed (price_fault o.price row) Passed) _ e)
+    unless-passed (offer_in_range edition o) (OfferOutOfRange row) (and_then-right (cond prices_needed (price_fault o.price row) no_fault) _ e)
 
-price-given : (price : Value) (row : ℕ) → price_fault price row ≡ Passed → price ≡ Given (held price)
+price-given : (price : Value) (row : ℕ) → price_fault price row ≡ no_fault → price ≡ Given (held price)
 price-given (Given number) row e = refl
 price-given Missing row e = cc
 
 -- An offer that clearing accepts is one of a sound book, and has a price.
-pub offer-priced : (edition : ℕ) (o : Offer) (row : ℕ) → offer_fault true edition o row ≡ Passed → PricedOffer o
+pub offer-priced : (edition : ℕ) (o : Offer) (row : ℕ) → offer_fault true edition o row ≡ no_fault → PricedOffer o
 unfolding offer_fault
 offer-priced edition o row e =
     let sound = offer-sound edition o (offer-in-range true edition o row e) in

@@ -10,9 +10,9 @@ use Prim.Native.Nat.{ℕ, zero, suc, ◌-◌, ◌<◌}
 use native.Mathlib.Omega.{arith}
 use borrow.Author.Tests.{eq-eqb}
 use Rattle.laws.proofs.Cases.{by_order, by-equality}
-use Rattle.values.specs.Refusals.{and_then}
-use Rattle.values.specs.declared.Verdict.TheVariants.{Passed}
+use Rattle.values.specs.Refusals.{and_then, no_fault}
 use Rattle.values.specs.declared.place.Offer.{Offer}
+use Rattle.values.specs.declared.refusal.Refusal.TheVariants.{RepeatedResource, BrokenSteps}
 use Rattle.values.proofs.Firsts.{unless-passed, and_then-left, and_then-right, first-at}
 use Rattle.repeats.specs.Repeats.{fresh, no_repeat}
 use Rattle.repeats.proofs.Fresh.{fresh-differs, repeat-tested}
@@ -23,15 +23,15 @@ use Rattle.limits.specs.Ranges.{SoundOffer, PricedOffer}
 use Rattle.limits.proofs.PassingOffers.{offer-sound, offer-in-range, offer-priced}
 
 module _ (prices_needed : Bool) (edition : ℕ) (offers : ℕ → Offer) (n : ℕ)
-    (e : rows_fault prices_needed edition offers n ≡ Passed) where
+    (e : rows_fault prices_needed edition offers n ≡ no_fault) where
   row-passed : (row : ℕ) → row < n
       → and_then (offer_fault prices_needed edition (offers row) row)
-      (and_then (repeat_fault offers row) (step_fault (offers (row - 1)) (offers row) row)) ≡ Passed
+      (and_then (repeat_fault offers row) (step_fault (offers (row - 1)) (offers row) row)) ≡ no_fault
   unfolding rows_fault
   row-passed row l = first-at _ n row e l
 
   -- Each row passes 6 and 7.
-  pub rows-values : (row : ℕ) → row < n → offer_fault prices_needed edition (offers row) row ≡ Passed
+  pub rows-values : (row : ℕ) → row < n → offer_fault prices_needed edition (offers row) row ≡ no_fault
   rows-values row l = and_then-left (offer_fault prices_needed edition (offers row) row) _ (row-passed row l)
 
   -- Where the rows have no fault, each is an offer of a sound book.
@@ -43,14 +43,14 @@ module _ (prices_needed : Bool) (edition : ℕ) (offers : ℕ → Offer) (n : �
   unfolding repeat_fault
   rows-fresh row l one =
       sym (repeat-tested (λ r. (offers r).resource) (λ r. (offers r).step) row (eq-eqb (offers row).step 1 one))
-      ∙ unless-passed (no_repeat (λ r. (offers r).resource) (λ r. (offers r).step) row) 8 row
+      ∙ unless-passed (no_repeat (λ r. (offers r).resource) (λ r. (offers r).step) row) (RepeatedResource row)
       (and_then-left (repeat_fault offers row) _ (and_then-right (offer_fault prices_needed edition (offers row) row) _ (row-passed row l)))
 
   -- It passes 10: it keeps the rules of steps.
   pub rows-steps : (row : ℕ) → row < n → step_holds (offers (row - 1)) (offers row) row ≡ true
   unfolding step_fault
   rows-steps row l =
-      unless-passed (step_holds (offers (row - 1)) (offers row) row) 10 row
+      unless-passed (step_holds (offers (row - 1)) (offers row) row) (BrokenSteps row)
       (and_then-right (repeat_fault offers row) _ (and_then-right (offer_fault prices_needed edition (offers row) row) _ (row-passed row l)))
 
   -- A row past step 1 stands behind another, whose offer it follows.
@@ -93,6 +93,6 @@ module _ (prices_needed : Bool) (edition : ℕ) (offers : ℕ → Offer) (n : �
   rows-distinct row other l m same also = steps-distinct (offers other).step row other l m same also refl
 
 -- Where clearing's tests find no fault in the rows, each row has a price as well.
-pub rows-priced : (edition : ℕ) (offers : ℕ → Offer) (n : ℕ) → rows_fault true edition offers n ≡ Passed
+pub rows-priced : (edition : ℕ) (offers : ℕ → Offer) (n : ℕ) → rows_fault true edition offers n ≡ no_fault
     → (row : ℕ) → row < n → PricedOffer (offers row)
 rows-priced edition offers n e row l = offer-priced edition (offers row) row (rows-values true edition offers n e row l)

@@ -9,13 +9,13 @@ use Prim.Native.Nat.{ℕ, ◌-◌, ◌≤◌, ◌<◌}
 use native.Mathlib.Omega.{arith}
 use lib.Dec.{eqb}
 use borrow.Author.Tests.{eqb-true}
+use Rattle.std.specs.Prelude.{Err, Ok}
 use Rattle.laws.specs.Sum.{every}
 use Rattle.laws.proofs.Cases.{by-test}
 use Rattle.laws.proofs.Everys.{every-at}
-use Rattle.values.specs.Refusals.{repeated_resource, and_then, first}
-use Rattle.values.specs.declared.Verdict.{Verdict}
-use Rattle.values.specs.declared.Verdict.TheVariants.{Passed, Refused}
+use Rattle.values.specs.Refusals.{repeated_resource, and_then, first, Verdict, no_fault}
 use Rattle.values.specs.declared.place.Offer.{Offer}
+use Rattle.values.specs.declared.refusal.Refusal.TheVariants.{RepeatedResource}
 use Rattle.values.proofs.Firsts.{and_then-next, and_then-refused, first-at, first-refused, first-ext}
 use Rattle.repeats.specs.Repeats.{no_repeat}
 use Rattle.repeats.specs.inner.Repeats.{first_repeat}
@@ -27,12 +27,13 @@ use Rattle.repeats.proofs.Fresh.{repeat-untested, repeat-none, repeat-at, repeat
 use Rattle.limits.proofs.Tested.{row_fault-row}
 use Rattle.limits.proofs.SecondPass.{with_repeats-repeat, with_repeats-none}
 use Rattle.limits.proofs.Lowest.{by_first, first-fewer}
+use Rattle.values.specs.declared.refusal.Refusal.{Refusal}
 
 -- ---- rows that pass, are refused or repeat
 
-and_then-passed : (v : Verdict) → and_then v Passed ≡ v
-and_then-passed Passed = refl
-and_then-passed (Refused number place) = refl
+and_then-passed : (v : Verdict) → and_then v no_fault ≡ v
+and_then-passed (Ok u) = refl
+and_then-passed (Err refusal) = refl
 
 module _ (prices_needed : Bool) (edition : ℕ) (offers : ℕ → Offer) where
   abbrev values_test : ℕ → Verdict
@@ -62,26 +63,26 @@ module _ (prices_needed : Bool) (edition : ℕ) (offers : ℕ → Offer) where
       (λ t. rw (step-first (offers (row - 1)) (offers row) row (eqb-true (step row) 1 t)) (and_then-passed _))
       (λ t. absurd (true≢false (sym (repeat-untested resource step row t) ∙ f)))
 
-  row-refused : (row number place : ℕ) → values_test row ≡ Refused number place → row_test row ≡ Refused number place
-  row-refused row number place t =
+  row-refused : (row : ℕ) (refusal : Refusal) → values_test row ≡ Err refusal → row_test row ≡ Err refusal
+  row-refused row refusal t =
       by-test (no_repeat resource step row)
       (λ f. row-unrepeated row f ∙ t)
-      (λ f. and_then-refused (offer_fault prices_needed edition (offers row) row) _ number place (sym (row-repeat row f) ∙ t))
+      (λ f. and_then-refused (offer_fault prices_needed edition (offers row) row) _ refusal (sym (row-repeat row f) ∙ t))
 
-  rows_pass : (n : ℕ) → first values_test n ≡ Passed → every (no_repeat resource step) n ≡ true → first row_test n ≡ Passed
+  rows_pass : (n : ℕ) → first values_test n ≡ no_fault → every (no_repeat resource step) n ≡ true → first row_test n ≡ no_fault
   rows_pass n e f = first-ext row_test values_test n (λ row l. row-unrepeated row (every-at _ n row f l)) ∙ e
 
   -- a repeat among rows whose values pass
   rows-repeat : (n limit row : ℕ)
       → limit ≤ n
-      → first values_test limit ≡ Passed
+      → first values_test limit ≡ no_fault
       → row < limit
       → every (no_repeat resource step) row ≡ true
       → no_repeat resource step row ≡ false
       → first row_test n ≡ repeated_resource row
   unfolding repeat_fault
   rows-repeat n limit row l e k f t =
-      first-refused row_test n row 8 row (omega arith)
+      first-refused row_test n row (RepeatedResource row) (omega arith)
       (rows_pass row (first-fewer values_test limit row (omega arith) e) f)
       (and_then-next (offer_fault prices_needed edition (offers row) row) _ (sym (row-repeat row t) ∙ first-at values_test limit row e k)
       ∙ rw t)
@@ -94,20 +95,20 @@ module _ (prices_needed : Bool) (edition : ℕ) (offers : ℕ → Offer) where
   -- the values pass up to a limit, and where no row before it repeats they decide
   record Limit (n limit : ℕ) : Type 0 where
     inside : limit ≤ n
-    passed : first values_test limit ≡ Passed
+    passed : first values_test limit ≡ no_fault
     decide : every (no_repeat resource step) limit ≡ true → first row_test n ≡ first values_test n
 
-  limit-passed : (n : ℕ) → first values_test n ≡ Passed → Limit n (limit_of n)
+  limit-passed : (n : ℕ) → first values_test n ≡ no_fault → Limit n (limit_of n)
   limit-passed n e = rw e record { inside = omega arith; passed = e; decide = λ f. rows_pass n e f ∙ sym e }
 
-  limit-refused : (n row number place : ℕ)
-      → row < n → first values_test row ≡ Passed → values_test row ≡ Refused number place → Limit n (limit_of n)
-  limit-refused n row number place l e t =
-      let found = first-refused values_test n row number place l e t in
-      rw (found, row_fault-row prices_needed edition (offers (row - 1)) (offers row) row number place t) record {
+  limit-refused : (n row : ℕ) (refusal : Refusal)
+      → row < n → first values_test row ≡ no_fault → values_test row ≡ Err refusal → Limit n (limit_of n)
+  limit-refused n row refusal l e t =
+      let found = first-refused values_test n row refusal l e t in
+      rw (found, row_fault-row prices_needed edition (offers (row - 1)) (offers row) row refusal t) record {
         inside = omega arith;
         passed = e;
-        decide = λ f. first-refused row_test n row number place l (rows_pass row e f) (row-refused row number place t) ∙ sym found;
+        decide = λ f. first-refused row_test n row refusal l (rows_pass row e f) (row-refused row refusal t) ∙ sym found;
       }
 
   rows-limit : (n : ℕ) → Limit n (limit_of n)

@@ -3,8 +3,7 @@
 use mathlib.Core.Path.{◌≡◌}
 use Prim.Native.Nat.{ℕ, ◌≤◌, ◌<◌}
 use borrow.Author.Tests.{lt-ltb, le-ltb}
-use Rattle.values.specs.Refusals.{repeated_resource}
-use Rattle.values.specs.declared.Verdict.{Verdict}
+use Rattle.values.specs.Refusals.{repeated_resource, Verdict}
 use Rattle.repeats.specs.inner.Repeats.{first_repeat}
 use Rattle.limits.specs.inner.Rows.{rows_before, with_repeats}
 

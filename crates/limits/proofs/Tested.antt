@@ -1,24 +1,24 @@
 -- An offer's fault by the tests that the code makes of it, one of the price and one of the ranges; the row that a row's refusal
 -- names; a row with step 1, and one past it.
 -- Assumes nothing.
-use mathlib.Core.Path.{◌≡◌, refl}
-use mathlib.Core.Bool.{Bool, true, false, cond, not, ◌||◌}
+use mathlib.Core.Path.{◌≡◌, refl, ap}
+use mathlib.Core.Bool.{Bool, true, false, cond, not, ◌&&◌, ◌||◌}
 use Prim.Native.Nat.{ℕ}
-use borrow.Author.Tests.{not-true, not-false}
-use Rattle.values.specs.Refusals.{no_price, offer_out_of_range, broken_steps, unless, and_then}
+use Rattle.std.specs.Prelude.{Err, Ok}
+use Rattle.values.specs.Refusals.{place_of, no_price, offer_out_of_range, broken_steps, unless, and_then, Verdict, no_fault}
 use Rattle.values.specs.declared.Value.{Value}
 use Rattle.values.specs.declared.Value.TheVariants.{Given, Missing}
-use Rattle.values.specs.declared.Verdict.{Verdict}
-use Rattle.values.specs.declared.Verdict.TheVariants.{Passed, Refused}
 use Rattle.values.specs.declared.place.Offer.{Offer}
 use Rattle.limits.specs.Offers.{price_fault, offer_in_range, offer_fault, step_fault}
 use Rattle.limits.specs.inner.Offers.{is_given}
 use Rattle.limits.specs.inner.Rows.{row_fault, past_fault}
 use Rattle.steps.specs.Steps.{step_follows, step_holds}
 use Rattle.steps.proofs.Following.{step-first, step-past-holds}
+use Rattle.values.specs.declared.refusal.Refusal.{Refusal}
+use Rattle.values.specs.declared.refusal.Refusal.TheVariants.{NoPrice, OfferOutOfRange, BrokenSteps}
 
 price_fault-tested : (prices_needed : Bool) (price : Value) (row : ℕ)
-    → cond prices_needed (price_fault price row) Passed ≡ unless (is_given price || not prices_needed) (no_price row)
+    → cond prices_needed (price_fault price row) no_fault ≡ unless (is_given price || not prices_needed) (no_price row)
 price_fault-tested true (Given number) row = refl
 price_fault-tested true Missing row = refl
 price_fault-tested false (Given number) row = refl
@@ -31,42 +31,47 @@ pub offer_fault-tested : (prices_needed : Bool) (edition : ℕ) (o : Offer) (row
 unfolding offer_fault
 offer_fault-tested prices_needed edition o row = rw price_fault-tested
 
+-- a price that is asked for and missing fails the test of it
+asked : (prices_needed given : Bool) → given || not prices_needed ≡ not (prices_needed && not given)
+asked true true = refl
+asked true false = refl
+asked false true = refl
+asked false false = refl
+
 -- what each way out of the code says, by what its tests answered
 module _ (prices_needed : Bool) (edition : ℕ) (o : Offer) (row : ℕ) (given ranged : Bool)
     (g : given ≡ is_given o.price) (r : ranged ≡ offer_in_range edition o) where
-  pub offer_fault-unpriced : not (given || not prices_needed) ≡ true → no_price row ≡ offer_fault prices_needed edition o row
-  offer_fault-unpriced p = rw (offer_fault-tested, ← g, not-true (given || not prices_needed) p)
+  pub offer_fault-unpriced : prices_needed && not given ≡ true → no_price row ≡ offer_fault prices_needed edition o row
+  offer_fault-unpriced p = rw (offer_fault-tested, ← g, asked prices_needed given, p)
 
-  pub offer_fault-outside : not (given || not prices_needed) ≡ false
-      → not ranged ≡ true → offer_out_of_range row ≡ offer_fault prices_needed edition o row
-  offer_fault-outside p q =
-      rw (offer_fault-tested, ← g, not-false (given || not prices_needed) p, ← r, not-true ranged q)
+  pub offer_fault-outside : prices_needed && not given ≡ false
+      → ranged ≡ false → offer_out_of_range row ≡ offer_fault prices_needed edition o row
+  offer_fault-outside p q = rw (offer_fault-tested, ← g, asked prices_needed given, p, ← r, q)
 
-  pub offer_fault-passed : not (given || not prices_needed) ≡ false
-      → not ranged ≡ false → Passed ≡ offer_fault prices_needed edition o row
-  offer_fault-passed p q =
-      rw (offer_fault-tested, ← g, not-false (given || not prices_needed) p, ← r, not-false ranged q)
+  pub offer_fault-passed : prices_needed && not given ≡ false
+      → ranged ≡ true → no_fault ≡ offer_fault prices_needed edition o row
+  offer_fault-passed p q = rw (offer_fault-tested, ← g, asked prices_needed given, p, ← r, q)
 
-tested-row : (s t u : Bool) (row number place : ℕ)
-    → and_then (and_then (unless s (no_price row)) (unless t (offer_out_of_range row))) (unless u (broken_steps row)) ≡ Refused number place
-    → place ≡ row
-tested-row true true true row number place e = cc
-tested-row true true false row number place e = cc
-tested-row true false u row number place e = cc
-tested-row false t u row number place e = cc
+tested-row : (s t u : Bool) (row : ℕ) (refusal : Refusal)
+    → and_then (and_then (unless s (no_price row)) (unless t (offer_out_of_range row))) (unless u (broken_steps row)) ≡ Err refusal
+    → place_of refusal ≡ row
+tested-row true true true row refusal e = cc
+tested-row true true false row refusal e = let same : refusal ≡ BrokenSteps row = cc in ap place_of same
+tested-row true false u row refusal e = let same : refusal ≡ OfferOutOfRange row = cc in ap place_of same
+tested-row false t u row refusal e = let same : refusal ≡ NoPrice row = cc in ap place_of same
 
 -- a fault with nothing behind it
-pub fault-alone : (v : Verdict) → and_then v Passed ≡ v
-fault-alone Passed = refl
-fault-alone (Refused number place) = refl
+pub fault-alone : (v : Verdict) → and_then v no_fault ≡ v
+fault-alone (Ok u) = refl
+fault-alone (Err refusal) = refl
 
 module _ (prices_needed : Bool) (edition : ℕ) where
   -- A refusal of a row names that row.
-  pub row_fault-row : (before o : Offer) (row number place : ℕ)
-      → row_fault prices_needed edition before o row ≡ Refused number place → place ≡ row
+  pub row_fault-row : (before o : Offer) (row : ℕ) (refusal : Refusal)
+      → row_fault prices_needed edition before o row ≡ Err refusal → place_of refusal ≡ row
   unfolding row_fault step_fault
-  row_fault-row before o row number place e =
-      tested-row (is_given o.price || not prices_needed) (offer_in_range edition o) (step_holds before o row) row number place
+  row_fault-row before o row refusal e =
+      tested-row (is_given o.price || not prices_needed) (offer_in_range edition o) (step_holds before o row) row refusal
       (rw (offer_fault-tested prices_needed edition o row) at e)
 
   -- A row with step 1 is refused by 6 and 7 alone.

@@ -1,7 +1,6 @@
 -- The first fault of parameters that stand in no book.
 -- Assumes nothing.
-use Rattle.values.specs.Refusals.{and_then}
-use Rattle.values.specs.declared.Verdict.{Verdict}
+use Rattle.values.specs.Refusals.{and_then, Verdict}
 use Rattle.values.specs.declared.head.Parameters.{Parameters}
 use Rattle.limits.specs.Parameters.{missing_fault, range_fault}
 

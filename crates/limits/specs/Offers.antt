@@ -4,11 +4,9 @@
 -- The offers of a book are a function of the row. Clearing needs every price; soundness does not.
 -- Assumes nothing.
 use Rattle.std.specs.Prelude.{ℕ, ◌-◌, Bool, cond, ◌&&◌, leb, eqb}
-use Rattle.values.specs.Refusals.{no_price, offer_out_of_range, repeated_resource, broken_steps, unless, and_then, first}
+use Rattle.values.specs.Refusals.{no_price, offer_out_of_range, repeated_resource, broken_steps, unless, and_then, first, Verdict, no_fault}
 use Rattle.values.specs.declared.Value.{Value}
 use Rattle.values.specs.declared.Value.TheVariants.{Given, Missing}
-use Rattle.values.specs.declared.Verdict.{Verdict}
-use Rattle.values.specs.declared.Verdict.TheVariants.{Passed}
 use Rattle.values.specs.declared.place.Offer.{Offer}
 use Rattle.limits.specs.Parameters.{within, given_within}
 use Rattle.repeats.specs.Repeats.{no_repeat}
@@ -16,7 +14,7 @@ use Rattle.steps.specs.Steps.{step_holds}
 
 -- 6: the row's price is missing
 abbrev pub price_fault : Value → ℕ → Verdict
-price_fault (Given price) row = Passed
+price_fault (Given price) row = no_fault
 price_fault Missing row = no_price row
 
 -- a step that an offer can have in a book of this edition: 1 to 10, and in edition 1 only 1
@@ -36,7 +34,7 @@ offer_in_range edition o =
 -- 6, where prices are needed, and 7
 unfoldable pub offer_fault : Bool → ℕ → Offer → ℕ → Verdict
 offer_fault prices_needed edition o row =
-    and_then (cond prices_needed (price_fault o.price row) Passed) (unless (offer_in_range edition o) (offer_out_of_range row))
+    and_then (cond prices_needed (price_fault o.price row) no_fault) (unless (offer_in_range edition o) (offer_out_of_range row))
 
 -- 8: the row has step 1, and its resource number stands in an earlier row
 unfoldable pub repeat_fault : (ℕ → Offer) → ℕ → Verdict

@@ -2,11 +2,9 @@
 -- 6 the reserve margin.
 -- Assumes nothing.
 use Rattle.std.specs.Prelude.{ℕ, Bool, true, cond, ◌&&◌, leb}
-use Rattle.values.specs.Refusals.{missing_parameter, parameter_out_of_range, unless, and_then}
+use Rattle.values.specs.Refusals.{missing_parameter, parameter_out_of_range, unless, and_then, Verdict, no_fault}
 use Rattle.values.specs.declared.Value.{Value}
 use Rattle.values.specs.declared.Value.TheVariants.{Given, Missing}
-use Rattle.values.specs.declared.Verdict.{Verdict}
-use Rattle.values.specs.declared.Verdict.TheVariants.{Passed}
 use Rattle.values.specs.declared.head.Parameters.{Parameters}
 
 -- a number from a least to a most
@@ -24,12 +22,12 @@ by_margin year = within 2022 2025 year
 
 -- 4 of one field: its value is missing
 abbrev pub field_fault : ℕ → Value → Verdict
-field_fault field (Given number) = Passed
+field_fault field (Given number) = no_fault
 field_fault field Missing = missing_parameter field
 
 -- 4 of the margin: it is missing in a year whose curve goes by it
 abbrev pub margin_fault : ℕ → Value → Verdict
-margin_fault year margin = cond (by_margin year) (field_fault 6 margin) Passed
+margin_fault year margin = cond (by_margin year) (field_fault 6 margin) no_fault
 
 -- 4: the first missing field
 unfoldable pub missing_fault : Parameters → Verdict

@@ -1,14 +1,16 @@
 // Refusals 4 and 5: a parameter that is missing, or out of range.
 ghost use Rattle.std.specs.Prelude.{◌≡◌, ◌≤◌, length};
 ghost use Rattle.values.specs.Head.{parameters_of};
+ghost use Rattle.values.specs.Refusals.{unless, parameter_out_of_range};
 ghost use Rattle.limits.specs.Parameters.{within, given_within, by_margin, offset_most, margin_within, missing_fault, range_fault};
 ghost use Rattle.limits.specs.inner.Parameters.{values_needed, missing_marks};
 
 use block::bytes::u16_at;
 use values::head::Parameters;
-use values::{Value, Verdict};
+use values::{Refusal, Value};
 
 // Whether the curve of a delivery year goes by the reserve margin.
+#[tactic(auto, unfolding(crate::specs::Parameters::by_margin))]
 pub fn by_margin(year: u32) -> bool
     ensures { result ≡ by_margin year }
 {
@@ -23,19 +25,19 @@ fn values_needed(year: u32) -> u32
 }
 
 // 4 by the marks: trailing zeros of the inverted marks, plus two, give the first missing field, where the year needs it.
-pub fn missing(year: u32, marks: u8) -> Verdict
+pub fn missing(year: u32, marks: u8) -> Result<(), Refusal>
     ensures { result ≡ missing_marks (by_margin year) marks }
 {
-    let gap = u8::trailing_zeros(!marks);
+    let gap = (!marks).trailing_zeros();
     if gap < values_needed(year) {
-        Verdict::Refused(4, gap + 2)
+        Err(Refusal::MissingParameter(gap + 2))
     } else {
-        Verdict::Passed
+        Ok(())
     }
 }
 
 // 4, of the parameters that a block 0 holds.
-pub fn missing_in(s: &[u8]) -> Verdict
+pub fn missing_in(s: &[u8]) -> Result<(), Refusal>
     requires { 512 ≤ length s.now }
     ensures { result ≡ missing_fault (parameters_of s.now) }
 {
@@ -60,7 +62,7 @@ pub fn given_within(least: u32, most: u32, v: Value) -> bool
 }
 
 // The most that an offset can be: C, and where C is missing 1,000,000.
-fn offset_most(cost: Value) -> u32
+pub fn offset_most(cost: Value) -> u32
     ensures { result ≡ offset_most cost }
 {
     match cost {
@@ -79,32 +81,26 @@ fn margin_within(year: u32, margin: Value) -> bool
     }
 }
 
+// 5 of a field, where its value does not hold.
+fn ranged(holds: bool, field: u32) -> Result<(), Refusal>
+    ensures { result ≡ unless holds (parameter_out_of_range field) }
+{
+    if holds {
+        Ok(())
+    } else {
+        Err(Refusal::ParameterOutOfRange(field))
+    }
+}
+
 // 5: the first field whose value is given and out of range.
-pub fn parameter_fault(p: Parameters) -> Verdict
+#[tactic(auto, using(values::proofs::Firsts::in_turn), unfolding(crate::specs::Parameters::range_fault))]
+pub fn parameter_fault(p: Parameters) -> Result<(), Refusal>
     ensures { result ≡ range_fault p }
 {
-    if !within(2022, 2099, p.year) {
-        return Verdict::Refused(5, 1);
-    }
-    let cost = p.cost;
-    if !given_within(1, 1000000, cost) {
-        return Verdict::Refused(5, 2);
-    }
-    let offset = p.offset;
-    if !given_within(0, offset_most(cost), offset) {
-        return Verdict::Refused(5, 3);
-    }
-    let outage = p.outage;
-    if !given_within(0, 5000, outage) {
-        return Verdict::Refused(5, 4);
-    }
-    let requirement = p.requirement;
-    if !given_within(1000, 2000000, requirement) {
-        return Verdict::Refused(5, 5);
-    }
-    let margin = p.margin;
-    if !margin_within(p.year, margin) {
-        return Verdict::Refused(5, 6);
-    }
-    Verdict::Passed
+    ranged(within(2022, 2099, p.year), 1)?;
+    ranged(given_within(1, 1000000, p.cost), 2)?;
+    ranged(given_within(0, offset_most(p.cost), p.offset), 3)?;
+    ranged(given_within(0, 5000, p.outage), 4)?;
+    ranged(given_within(1000, 2000000, p.requirement), 5)?;
+    ranged(margin_within(p.year, p.margin), 6)
 }

@@ -8,7 +8,6 @@ use contract.Lifetimes.{Lfts}
 use denote.Ref.{MutBor}
 use Rattle.values.specs.declared.head.Parameters.{Parameters}
 use Rattle.curve.specs.declared.Curve.{Curve}
-use Rattle.pricing.specs.declared.ClearingPrice.{ClearingPrice}
 use Rattle.reasons.specs.declared.stop.Stop.{Stop}
 use Rattle.sale.specs.declared.Clearing.{Clearing}
 use Rattle.wording.proofs.Worded.{one_form}
@@ -19,6 +18,7 @@ use Rattle.lines.proofs.points.put_prices.Reads as put-prices
 use Rattle.lines.proofs.points.put_quantities.Reads as put-quantities
 use Rattle.lines.proofs.total.put_total.Reads as put-total
 use Rattle.lines.proofs.total.put_price.Reads as put-price
+use Rattle.pricing.specs.Price.{ClearingPrice}
 
 module _ (κs : Lfts 1) (room after other : MutBor (List ℕ)) (at r s : ℕ) where
   -- what a book states, by the contract of `put_stated`

@@ -1,5 +1,1 @@
-pub mod Weights
 pub mod ClearingDecided
-mod Stating
-mod CurvePoints
-mod Answered

@@ -1,17 +1,16 @@
 -- The cleared total and the tenth past it; the price and what sets it.
 -- Assumes nothing.
-use Rattle.std.specs.Prelude.{ℕ, Bool, cond, List, [], ◌∷◌, eqb, ltb}
-use Rattle.pricing.specs.declared.ClearingPrice.{ClearingPrice}
-use Rattle.reasons.specs.declared.stop.Next.{Next}
-use Rattle.reasons.specs.declared.stop.Next.TheVariants.{Bought, NoMore}
+use Rattle.std.specs.Prelude.{ℕ, Bool, cond, List, [], ◌∷◌, eqb, ltb, Some, None}
 use Rattle.reasons.specs.declared.stop.Stop.{Stop}
 use Rattle.wording.specs.Words.{absent, as_one, cents_of, price_word}
 use Rattle.lines.specs.Sold.{total_word}
+use Rattle.pricing.specs.Price.{ClearingPrice}
+use Rattle.reasons.specs.Stop.{Next}
 
 -- whether there is a tenth past the total or none, the curve price there, and what is offered up to it
 abbrev pub next_numbers : Next → List ℕ
-next_numbers (Bought tenth) = 0 ∷ tenth.price.0 ∷ tenth.offered ∷ []
-next_numbers NoMore = 1 ∷ absent ∷ absent ∷ []
+next_numbers (Some tenth) = 0 ∷ tenth.price.0 ∷ tenth.offered ∷ []
+next_numbers None = 1 ∷ absent ∷ absent ∷ []
 
 unfoldable pub total_numbers : Stop → ℕ → List ℕ
 total_numbers s offers =

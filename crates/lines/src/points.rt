@@ -7,11 +7,11 @@ ghost use Rattle.lines.specs.inner.Points.{Selected, Whole};
 use curve::{Curve, WHOLE, Weights};
 use forms::put_form;
 use limits::parameters::by_margin;
-use numbers::excess;
 use values::head::Parameters;
 use values::number_held;
 
 // The weights of an edition of the curve: the early one goes by the margin.
+#[tactic(auto, unfolding(crate::specs::Points::weights_of))]
 fn weights_of(early: bool) -> Weights
     ensures { Selected early result }
 {
@@ -23,43 +23,46 @@ fn weights_of(early: bool) -> Weights
 }
 
 // What stands for the requirement, in hundredths of a percent.
+#[tactic(auto, unfolding(crate::specs::Points::whole_of))]
 fn whole_of(early: bool, margin: u32) -> u64
     ensures { Whole early margin result }
 {
-    let whole = WHOLE as u64;
-    if early { whole + margin as u64 } else { whole }
+    let whole = u64::from(WHOLE);
+    if early {
+        whole + u64::from(margin)
+    } else {
+        whole
+    }
 }
 
 // So many quarters of the net cost, in cents.
+#[tactic(auto, unfolding(crate::specs::Points::net_cents))]
 fn net_cents(cost: u32, offset: u32, quarters: u32) -> u64
     requires { quarters ≤ 7 }
     ensures { result ≡ net_cents cost offset quarters }
 {
-    excess(cost, offset) as u64 * quarters as u64 * 25
+    u64::from(cost.saturating_sub(offset)) * u64::from(quarters) * 25
 }
 
 // The greater of C and so many quarters of the net cost, in cents.
+#[tactic(auto, unfolding(crate::specs::Points::first_cents))]
 fn first_cents(cost: u32, offset: u32, quarters: u32) -> u64
     requires { quarters ≤ 7 }
     ensures { result ≡ first_cents cost offset quarters }
 {
-    let own = cost as u64 * 100;
-    let net = net_cents(cost, offset, quarters);
-    if own < net { net } else { own }
+    (u64::from(cost) * 100).max(net_cents(cost, offset, quarters))
 }
 
 // Puts the edition and how the prices of points 1 and 2 come of the parameters.
+#[tactic(auto, using(wording::proofs::Showing::showing), unfolding(crate::specs::Points::prices_numbers))]
 pub fn put_prices(room: &mut [u8], at: usize, p: Parameters, c: Curve) -> usize
     ensures { Shown room.old at (prices_numbers p c) room.new result }
 {
     let early = by_margin(p.year);
     let weights = weights_of(early);
-    let cost = p.cost;
-    let cost = number_held(cost);
-    let offset = p.offset;
-    let offset = number_held(offset);
-    let outage = p.outage;
-    let left = excess(WHOLE, number_held(outage)) as u64;
+    let cost = number_held(p.cost);
+    let offset = number_held(p.offset);
+    let left = u64::from(WHOLE.saturating_sub(number_held(p.outage)));
     put_form(
         room,
         at,
@@ -73,26 +76,26 @@ rounded to whole cents and tenths of a MW, a half up
   P3 = 0.00: the curve ends at a price of zero
 ",
         &[
-            early as u64,
-            early as u64,
+            u64::from(early),
+            u64::from(early),
             first_cents(cost, offset, weights.first),
             left,
-            c.p1.0 as u64,
+            u64::from(c.p1.0),
             net_cents(cost, offset, weights.second),
             left,
-            c.p2.0 as u64,
+            u64::from(c.p2.0),
         ],
     )
 }
 
 // Puts how the quantities of the three points come of the requirement.
+#[tactic(auto, using(wording::proofs::Showing::showing), unfolding(crate::specs::Points::quantities_numbers))]
 pub fn put_quantities(room: &mut [u8], at: usize, p: Parameters, c: Curve) -> usize
     ensures { Shown room.old at (quantities_numbers p c) room.new result }
 {
     let early = by_margin(p.year);
     let weights = weights_of(early);
-    let margin = p.margin;
-    let whole = whole_of(early, number_held(margin));
+    let whole = whole_of(early, number_held(p.margin));
     put_form(
         room,
         at,
@@ -102,16 +105,16 @@ pub fn put_quantities(room: &mut [u8], at: usize, p: Parameters, c: Curve) -> us
 [|  @ is 100 percent and the margin in hundredths; 1.2 less, 1.9 and 7.8 more
 ]",
         &[
-            whole - weights.under as u64,
+            whole - u64::from(weights.under),
             whole,
-            c.q1 as u64,
-            whole + weights.over as u64,
+            u64::from(c.q1),
+            whole + u64::from(weights.over),
             whole,
-            c.q2 as u64,
-            whole + weights.last as u64,
+            u64::from(c.q2),
+            whole + u64::from(weights.last),
             whole,
-            c.q3 as u64,
-            early as u64,
+            u64::from(c.q3),
+            u64::from(early),
             whole,
         ],
     )

@@ -1,61 +1,45 @@
 // What a book states: its edition where that is 2, and its parameters, each given or missing.
+ghost use Rattle.std.specs.Prelude.{◌≡◌};
 ghost use Rattle.forms.specs.Shown.{Shown};
 ghost use Rattle.lines.specs.Stated.{stated_numbers};
-ghost use Rattle.lines.specs.inner.Stated.{States};
 
 use forms::put_form;
 use limits::parameters::by_margin;
 use values::head::Parameters;
 use wording::word::{margined, valued, yearly};
 
-// The parameters that a book states, as the numbers that are shown: for each the words for it and its number.
-#[derive(Clone, Copy)]
-struct Stated {
-    cost_word: u64,
-    cost: u64,
-    offset_word: u64,
-    offset: u64,
-    outage_word: u64,
-    outage: u64,
-    requirement_word: u64,
-    requirement: u64,
-    margin_word: u64,
-    margin: u64,
-}
-
-// The words for each parameter, and its number.
-fn told(p: Parameters) -> Stated
-    ensures { States p result }
+// What a book states, as the numbers that are shown: for each parameter the words for it and its number.
+#[tactic(auto, unfolding(crate::specs::Stated::stated_numbers))]
+fn stated_numbers(edition: u32, p: Parameters, offers: u32) -> [u64; 13]
+    ensures { result ≡ stated_numbers edition p offers }
 {
-    let cost = p.cost;
-    let offset = p.offset;
-    let outage = p.outage;
-    let requirement = p.requirement;
-    let margin = p.margin;
-    let cost = yearly(cost);
-    let offset = yearly(offset);
-    let outage = valued(outage);
-    let requirement = valued(requirement);
-    let margin = margined(by_margin(p.year), margin);
-    Stated {
-        cost_word: cost.word,
-        cost: cost.number,
-        offset_word: offset.word,
-        offset: offset.number,
-        outage_word: outage.word,
-        outage: outage.number,
-        requirement_word: requirement.word,
-        requirement: requirement.number,
-        margin_word: margin.word,
-        margin: margin.number,
-    }
+    let cost = yearly(p.cost);
+    let offset = yearly(p.offset);
+    let outage = valued(p.outage);
+    let requirement = valued(p.requirement);
+    let margin = margined(by_margin(p.year), p.margin);
+    [
+        u64::from(edition == 2),
+        u64::from(p.year),
+        cost.word,
+        cost.number,
+        offset.word,
+        offset.number,
+        outage.word,
+        outage.number,
+        requirement.word,
+        requirement.number,
+        margin.word,
+        margin.number,
+        u64::from(offers),
+    ]
 }
 
 // Puts the edition, where offers have steps in it, the parameters and the number of offers.
+#[tactic(auto, using(wording::proofs::Showing::showing), unfolding(crate::specs::Stated::stated_numbers))]
 pub fn put_stated(room: &mut [u8], at: usize, edition: u32, p: Parameters, offers: u32) -> usize
     ensures { Shown room.old at (stated_numbers edition p offers) room.new result }
 {
-    let n = told(p);
     put_form(
         room,
         at,
@@ -72,20 +56,6 @@ pub fn put_stated(room: &mut [u8], at: usize, edition: u32, p: Parameters, offer
     |missing, which is not zero|0.00 percent, entered as zero|$ percent]
   offers                 @
 ",
-        &[
-            (edition == 2) as u64,
-            p.year as u64,
-            n.cost_word,
-            n.cost,
-            n.offset_word,
-            n.offset,
-            n.outage_word,
-            n.outage,
-            n.requirement_word,
-            n.requirement,
-            n.margin_word,
-            n.margin,
-            offers as u64,
-        ],
+        &stated_numbers(edition, p, offers),
     )
 }

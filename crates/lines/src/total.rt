@@ -1,49 +1,32 @@
 // The cleared total and why it stops where it does, the price and what sets it.
 ghost use Rattle.std.specs.Prelude.{◌≡◌};
 ghost use Rattle.forms.specs.Shown.{Shown};
-ghost use Rattle.lines.specs.Total.{setter, total_numbers, price_numbers};
-ghost use Rattle.lines.specs.inner.Total.{Tells};
+ghost use Rattle.lines.specs.Total.{next_numbers, setter, total_numbers, price_numbers};
 
+use crate::sold::total_word;
 use forms::put_form;
-use pricing::ClearingPrice;
-use reasons::stop::{Next, Stop};
-use wording::word::{either, first_true, priced};
+use reasons::stop::{Stop, Tenth};
+use std::cmp::Ordering;
+use units::CentsPerMwDay;
+use wording::word::priced;
 
-// The tenth past a total: whether there is none, the curve price there and what is offered up to it.
-#[derive(Clone, Copy)]
-struct Further {
-    none: u64,
-    price: u64,
-    offered: u64,
-}
-
-// The tenth past a total, with all ones for the numbers of one that is not there.
-fn tenth_past(next: Next) -> Further
-    ensures { Tells next result }
+// The tenth past a total, as the numbers that are shown: whether there is none, the curve price there and what is offered up to
+// it, with all ones for the numbers of one that is not there.
+fn next_numbers(next: Option<Tenth>) -> [u64; 3]
+    ensures { result ≡ next_numbers next }
 {
     match next {
-        Next::Bought(tenth) => {
-            let price = tenth.price;
-            Further {
-                none: 0,
-                price: price.0 as u64,
-                offered: tenth.offered as u64,
-            }
-        }
-        Next::NoMore => Further {
-            none: 1,
-            price: 18446744073709551615,
-            offered: 18446744073709551615,
-        },
+        Some(tenth) => [0, u64::from(tenth.price.0), u64::from(tenth.offered)],
+        None => [1, u64::MAX, u64::MAX],
     }
 }
 
 // Puts the total, the curve price there, what is offered up to it, and why it is no tenth more.
+#[tactic(auto, using(wording::proofs::Showing::showing), unfolding(crate::specs::Total::total_numbers))]
 pub fn put_total(room: &mut [u8], at: usize, s: Stop, offers: u32) -> usize
     ensures { Shown room.old at (total_numbers s offers) room.new result }
 {
-    let next = s.next;
-    let past = tenth_past(next);
+    let [none, price, offered] = next_numbers(s.next);
     put_form(
         room,
         at,
@@ -56,34 +39,43 @@ The cleared total X is ~ MW[|: there are no offers|: no offer is at or under
     |  X is Q3, the last point of the curve, so X stops here]
 ",
         &[
-            s.level.total as u64,
-            first_true(0 < s.level.total, offers == 0),
-            s.curve.p1.0 as u64,
-            s.last.price.0 as u64,
-            s.last.offered as u64,
-            past.none,
-            past.price,
-            past.offered,
+            u64::from(s.level.total),
+            total_word(s.level.total, offers),
+            u64::from(s.curve.p1.0),
+            u64::from(s.last.price.0),
+            u64::from(s.last.offered),
+            none,
+            price,
+            offered,
         ],
     )
 }
 
 // What sets a price: 0 the curve, as no price has more than the total; else the next price is 1 under the curve price, 2 over
 // it, 3 the same.
+#[tactic(auto, unfolding(crate::specs::Total::setter))]
 fn setter(more: bool, price: u32, curve_price: u32) -> u64
     ensures { result ≡ setter more price curve_price }
 {
-    let side = either(curve_price < price, 2, 3);
-    either(more, either(price < curve_price, 1, side), 0)
+    match price.cmp(&curve_price) {
+        _ if !more => 0,
+        Ordering::Less => 1,
+        Ordering::Greater => 2,
+        Ordering::Equal => 3,
+    }
 }
 
 // Puts the price, of the level at which the total stops and the curve price there, and what sets it.
-pub fn put_price(room: &mut [u8], at: usize, price: ClearingPrice, s: Stop) -> usize
+#[tactic(auto, using(wording::proofs::Showing::showing), unfolding(crate::specs::Total::price_numbers))]
+pub fn put_price(room: &mut [u8], at: usize, price: Option<CentsPerMwDay>, s: Stop) -> usize
     ensures { Shown room.old at (price_numbers price s) room.new result }
 {
     let told = priced(price);
-    let none = told.word == 2;
-    let sets = setter(s.level.total < s.level.reach, s.level.price, s.last.price.0);
+    let more = s.level.total < s.level.reach;
+    let (further, sets) = match price {
+        None => (2, 4),
+        Some(_) => (u64::from(more), setter(more, s.level.price, s.last.price.0)),
+    };
     put_form(
         room,
         at,
@@ -100,10 +92,10 @@ pub fn put_price(room: &mut [u8], at: usize, price: ClearingPrice, s: Stop) -> u
         &[
             told.word,
             told.number,
-            either(none, 2, (s.level.total < s.level.reach) as u64),
-            s.level.price as u64,
-            s.level.reach as u64,
-            either(none, 4, sets),
+            further,
+            u64::from(s.level.price),
+            u64::from(s.level.reach),
+            sets,
         ],
     )
 }

@@ -9,11 +9,10 @@ use native.Mathlib.Omega.{arith}
 use lib.Dec.{leb}
 use lib.ListN.{length, set, length-set}
 use borrow.Author.Tests.{le-leb, lt-leb, leb-true, eq-eqb, ne_eqb}
+use Rattle.std.specs.Prelude.{Err, Ok}
 use Rattle.values.specs.Place.{offer_of}
 use Rattle.values.specs.Contents.{offer_at}
-use Rattle.values.specs.Refusals.{unless, and_then, short_buffer}
-use Rattle.values.specs.declared.Verdict.{Verdict}
-use Rattle.values.specs.declared.Verdict.TheVariants.{Passed, Refused}
+use Rattle.values.specs.Refusals.{unless, and_then, short_buffer, number_of, place_of, Verdict, no_fault}
 use Rattle.values.specs.declared.head.Parameters.{Parameters}
 use Rattle.values.specs.declared.place.Offer.{Offer}
 use Rattle.values.proofs.Firsts.{and_then-next, and_then-refused, and_then-left, and_then-right, unless-true, unless-false, unless-passed}
@@ -26,6 +25,8 @@ use Rattle.plain.specs.declared.structs.OzpContents.{OzpContents}
 use Rattle.plain.specs.declared.structs.OzpRow.{OzpRow}
 use Rattle.listing.specs.Listed.{offer_out, contents_out, contents_refused, contents_by, read_fault, exported_contents, rows_filled, filled_rows, row_out}
 use Rattle.listing.specs.inner.Listed.{HasRow}
+use Rattle.values.specs.declared.refusal.Refusal.{Refusal}
+use Rattle.values.specs.declared.refusal.Refusal.TheVariants.{ShortBuffer}
 
 -- ---- the fault
 
@@ -35,39 +36,39 @@ module _ (b : List ℕ) (entries : ℕ) where
   rows = length (contents_of b).offers
 
   -- refused by 1 to 3
-  pub read-formless : (number place : ℕ) → form_fault b ≡ Refused number place → Refused number place ≡ read_fault b entries
+  pub read-formless : (refusal : Refusal) → form_fault b ≡ Err refusal → Err refusal ≡ read_fault b entries
   unfolding read_fault
-  read-formless number place e = sym (and_then-refused (form_fault b) _ number place e)
+  read-formless refusal e = sym (and_then-refused (form_fault b) _ refusal e)
 
   -- by 9, and by none
-  pub read_short : form_fault b ≡ Passed → entries < rows → Refused 9 1 ≡ read_fault b entries
+  pub read_short : form_fault b ≡ no_fault → entries < rows → Err (ShortBuffer 1) ≡ read_fault b entries
   unfolding read_fault
   read_short e l = sym (and_then-next (form_fault b) _ e ∙ unless-false (leb rows entries) (short_buffer 1) (lt-leb rows entries l))
 
-  pub read-passed : form_fault b ≡ Passed → rows ≤ entries → Passed ≡ read_fault b entries
+  pub read-passed : form_fault b ≡ no_fault → rows ≤ entries → no_fault ≡ read_fault b entries
   unfolding read_fault
   read-passed e h = sym (and_then-next (form_fault b) _ e ∙ unless-true (leb rows entries) (short_buffer 1) (le-leb rows entries h))
 
   -- where nothing refuses, the form is right and each row has an entry
-  pub passed-form : read_fault b entries ≡ Passed → form_fault b ≡ Passed
+  pub passed-form : read_fault b entries ≡ no_fault → form_fault b ≡ no_fault
   unfolding read_fault
   passed-form e = and_then-left (form_fault b) _ e
 
-  pub passed-room : read_fault b entries ≡ Passed → rows ≤ entries
+  pub passed-room : read_fault b entries ≡ no_fault → rows ≤ entries
   unfolding read_fault
-  passed-room e = leb-true rows entries (unless-passed (leb rows entries) 9 1 (and_then-right (form_fault b) _ e))
+  passed-room e = leb-true rows entries (unless-passed (leb rows entries) (ShortBuffer 1) (and_then-right (form_fault b) _ e))
 
-  pub passed-long : read_fault b entries ≡ Passed → 512 ≤ length b
+  pub passed-long : read_fault b entries ≡ no_fault → 512 ≤ length b
   passed-long e = form-passed-length b (passed-form e)
 
   -- ---- what is answered
 
-  pub contents-refused : (number place : ℕ) → read_fault b entries ≡ Refused number place
-      → contents_refused number place ≡ exported_contents b entries
+  pub contents-refused : (refusal : Refusal) → read_fault b entries ≡ Err refusal
+      → contents_refused (number_of refusal) (place_of refusal) ≡ exported_contents b entries
   unfolding exported_contents
-  contents-refused number place e = rw e
+  contents-refused refusal e = rw e
 
-  pub contents-passed : read_fault b entries ≡ Passed → (edition : ℕ) (p : Parameters) (n : ℕ)
+  pub contents-passed : read_fault b entries ≡ no_fault → (edition : ℕ) (p : Parameters) (n : ℕ)
       → edition ≡ (contents_of b).edition → p ≡ (contents_of b).parameters → n ≡ rows
       → contents_out edition p n ≡ exported_contents b entries
   unfolding exported_contents
@@ -83,8 +84,8 @@ module _ (b : List ℕ) (entries : ℕ) where
   entered_by : (v : Verdict) → read_fault b entries ≡ v → (i : ℕ)
       → i < rows_filled (contents_by v (contents_out (contents_of b).edition (contents_of b).parameters rows)) → Entered i
   unfolding rows_filled
-  entered_by Passed e i l = record { has = record { form = passed-form e; there = l }; room = passed-room e }
-  entered_by (Refused number place) e i l = absurd (omega arith)
+  entered_by (Ok u) e i l = record { has = record { form = passed-form e; there = l }; room = passed-room e }
+  entered_by (Err refusal) e i l = absurd (omega arith)
 
   entered : (i : ℕ) → i < rows_filled (exported_contents b entries) → Entered i
   unfolding exported_contents

@@ -3,13 +3,11 @@
 -- In order: a value and an offer; what a book says besides its rows, or why it is refused; how many rows are filled in; what a
 -- reading returns and leaves in the array of rows.
 -- Assumes nothing.
-use Rattle.std.specs.Prelude.{ℕ, zero, suc, ◌≡◌, cond, List, eqb, leb, length, set}
-use Rattle.values.specs.Refusals.{unless, and_then, short_buffer}
+use Rattle.std.specs.Prelude.{ℕ, zero, suc, ◌≡◌, cond, List, eqb, leb, length, set, Err, Ok}
+use Rattle.values.specs.Refusals.{unless, and_then, short_buffer, number_of, place_of, Verdict}
 use Rattle.values.specs.Contents.{offer_at}
 use Rattle.values.specs.declared.Value.{Value}
 use Rattle.values.specs.declared.Value.TheVariants.{Given, Missing}
-use Rattle.values.specs.declared.Verdict.{Verdict}
-use Rattle.values.specs.declared.Verdict.TheVariants.{Passed, Refused}
 use Rattle.values.specs.declared.head.Parameters.{Parameters}
 use Rattle.values.specs.declared.place.Offer.{Offer}
 use Rattle.layout.specs.Form.{form_fault}
@@ -80,8 +78,8 @@ unfoldable pub read_fault : List ℕ → ℕ → Verdict
 read_fault b entries = and_then (form_fault b) (unless (leb (length (contents_of b).offers) entries) (short_buffer 1))
 
 abbrev pub contents_by : Verdict → OzpContents → OzpContents
-contents_by Passed contents = contents
-contents_by (Refused number place) contents = contents_refused number place
+contents_by (Ok u) contents = contents
+contents_by (Err refusal) contents = contents_refused (number_of refusal) (place_of refusal)
 
 -- what a book says, its rows going into so many entries, or the refusal
 unfoldable pub exported_contents : List ℕ → ℕ → OzpContents

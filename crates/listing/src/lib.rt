@@ -4,6 +4,7 @@
 ghost use Rattle.std.specs.Prelude.{◌≡◌};
 ghost use Rattle.listing.specs.Listed.{value_out, offer_out, contents_out, contents_refused, read_fault, exported_contents, rows_filled, row_out};
 ghost use Rattle.listing.specs.inner.Listed.{HasRow};
+ghost use Rattle.values.specs.Refusals.{number_of, place_of};
 
 use block::SIZE;
 use layout::form::form;
@@ -11,7 +12,30 @@ use layout::reader::{edition, offer_count, row_bytes};
 use plain::structs::{NO_VALUE, OzpContents, OzpParameters, OzpRow, OzpValue};
 use values::head::{Parameters, parameters_in};
 use values::place::{Offer, offer_in};
-use values::{Value, Verdict};
+use values::{Refusal, Value};
+
+// No value.
+const NONE: OzpValue = OzpValue {
+    kind: 2,
+    number: NO_VALUE,
+};
+
+// A refusal without its number and its place: nothing is said of what the book holds.
+const NO_CONTENTS: OzpContents = OzpContents {
+    kind: 3,
+    rows: NO_VALUE,
+    edition: NO_VALUE,
+    number: NO_VALUE,
+    place: NO_VALUE,
+    parameters: OzpParameters {
+        year: NO_VALUE,
+        cost: NONE,
+        offset: NONE,
+        outage: NONE,
+        requirement: NONE,
+        margin: NONE,
+    },
+};
 
 // A value as it goes out: one that is missing has no number.
 fn value_out(v: Value) -> OzpValue
@@ -30,15 +54,13 @@ fn value_out(v: Value) -> OzpValue
 fn offer_out(o: Offer) -> OzpRow
     ensures { result ≡ offer_out o }
 {
-    let price = o.price;
-    let block = o.block;
     OzpRow {
         stamp: o.stamp,
         resource: o.resource,
         seller: o.seller,
         quantity: o.quantity,
-        price: value_out(price),
-        block: value_out(block),
+        price: value_out(o.price),
+        block: value_out(o.block),
         step: o.step,
     }
 }
@@ -55,74 +77,50 @@ pub fn row_at(book: &[u8], row: usize) -> OzpRow
 fn contents_out(edition: u32, p: Parameters, rows: u32) -> OzpContents
     ensures { result ≡ contents_out edition p rows }
 {
-    let cost = p.cost;
-    let offset = p.offset;
-    let outage = p.outage;
-    let requirement = p.requirement;
-    let margin = p.margin;
-    let parameters = OzpParameters {
-        year: p.year,
-        cost: value_out(cost),
-        offset: value_out(offset),
-        outage: value_out(outage),
-        requirement: value_out(requirement),
-        margin: value_out(margin),
-    };
     OzpContents {
         kind: 1,
         rows,
         edition,
-        number: NO_VALUE,
-        place: NO_VALUE,
-        parameters,
+        parameters: OzpParameters {
+            year: p.year,
+            cost: value_out(p.cost),
+            offset: value_out(p.offset),
+            outage: value_out(p.outage),
+            requirement: value_out(p.requirement),
+            margin: value_out(p.margin),
+        },
+        ..NO_CONTENTS
     }
 }
 
 // A refusal: nothing is said of what the book holds.
-fn contents_refused(number: u32, place: u32) -> OzpContents
-    ensures { result ≡ contents_refused number place }
+fn contents_refused(refusal: Refusal) -> OzpContents
+    ensures { result ≡ contents_refused (number_of refusal) (place_of refusal) }
 {
-    let none = OzpValue {
-        kind: 2,
-        number: NO_VALUE,
-    };
-    let parameters = OzpParameters {
-        year: NO_VALUE,
-        cost: none,
-        offset: none,
-        outage: none,
-        requirement: none,
-        margin: none,
-    };
     OzpContents {
-        kind: 3,
-        rows: NO_VALUE,
-        edition: NO_VALUE,
-        number,
-        place,
-        parameters,
+        number: refusal.number(),
+        place: refusal.place(),
+        ..NO_CONTENTS
     }
 }
 
 // 1 to 3, and then 9 where the rows do not all have an entry.
-fn read_fault(book: &[u8], entries: usize) -> Verdict
+fn read_fault(book: &[u8], entries: usize) -> Result<(), Refusal>
     ensures { result ≡ read_fault book.now entries }
 {
-    if let Verdict::Refused(number, place) = form(book) {
-        return Verdict::Refused(number, place);
-    }
+    form(book)?;
     if entries < offer_count(book) as usize {
-        return Verdict::Refused(9, 1);
+        return Err(Refusal::ShortBuffer(1));
     }
-    Verdict::Passed
+    Ok(())
 }
 
 // What a book says besides its rows, which are to go into so many entries.
 pub fn contents(book: &[u8], entries: usize) -> OzpContents
     ensures { result ≡ exported_contents book.now entries }
 {
-    if let Verdict::Refused(number, place) = read_fault(book, entries) {
-        return contents_refused(number, place);
+    if let Err(refusal) = read_fault(book, entries) {
+        return contents_refused(refusal);
     }
     contents_out(
         edition(book),

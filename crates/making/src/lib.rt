@@ -31,9 +31,7 @@ pub fn put_zeros(b: &mut [u8], at: usize, n: usize)
     requires { at + n ≤ length b.old }
     ensures { b.new ≡ put b.old at (zeros n) }
 {
-    for i in 0..n {
-        b[at + i] = 0;
-    }
+    b[at..at + n].fill(0);
 }
 
 // Zeros in the places behind so many rows of the block that starts at a place. Where all are used there is nothing to do, which is
@@ -42,6 +40,7 @@ fn put_unused(b: &mut [u8], at: usize, here: usize)
     requires { (at + 512 ≤ length b.old) × (here ≤ 15) }
     ensures { b.new ≡ unused_at b.old at here }
 {
+    // Zeros in no places would change nothing: the test stays for the wrong program room_left_in_unused_places, which turns it.
     if here == PLACES {
         return;
     }
@@ -55,24 +54,19 @@ fn seal(b: &mut [u8], at: usize)
     ensures { b.new ≡ sealed_at b.old at }
 {
     let sums = check_sums(&b[at..at + SIZE]);
-    put_u16(b, at + 508, sums.sum as u32);
-    put_u16(b, at + 510, sums.total as u32);
+    put_u16(b, at + 508, u32::from(sums.sum));
+    put_u16(b, at + 510, u32::from(sums.total));
 }
 
 // The marks of block 0.
 fn head_marks(p: Parameters) -> u32
     ensures { (result ≡ head_marks p) × (result ≤ 31) }
 {
-    let cost = p.cost;
-    let offset = p.offset;
-    let outage = p.outage;
-    let requirement = p.requirement;
-    let margin = p.margin;
-    mark_of(cost, 1)
-        + mark_of(offset, 2)
-        + mark_of(outage, 4)
-        + mark_of(requirement, 8)
-        + mark_of(margin, 16)
+    mark_of(p.cost, 1)
+        + mark_of(p.offset, 2)
+        + mark_of(p.outage, 4)
+        + mark_of(p.requirement, 8)
+        + mark_of(p.margin, 16)
 }
 
 // C, E, F and R.
@@ -80,14 +74,10 @@ fn put_values(b: &mut [u8], p: Parameters)
     requires { 512 ≤ length b.old }
     ensures { b.new ≡ put b.old 8 (four_values p) }
 {
-    let cost = p.cost;
-    let offset = p.offset;
-    let outage = p.outage;
-    let requirement = p.requirement;
-    put_value(b, 8, cost);
-    put_value(b, 12, offset);
-    put_value(b, 16, outage);
-    put_value(b, 20, requirement);
+    put_value(b, 8, p.cost);
+    put_value(b, 12, p.offset);
+    put_value(b, 16, p.outage);
+    put_value(b, 20, p.requirement);
 }
 
 // What block 0 says, in its first 32 bytes.
@@ -95,14 +85,13 @@ fn put_opening(b: &mut [u8], edition: u32, p: Parameters, rows: u32)
     requires { 512 ≤ length b.old }
     ensures { b.new ≡ put b.old 0 (opening edition p rows) }
 {
-    let margin = p.margin;
     put_letters(b, 0, &RPMB);
     put_u16(b, 4, edition);
     put_u16(b, 6, p.year);
     put_values(b, p);
     put_u16(b, 24, rows);
     put_u16(b, 26, head_marks(p));
-    put_value(b, 28, margin);
+    put_value(b, 28, p.margin);
 }
 
 // Block number k, in whose places stand so many rows.

@@ -4,7 +4,6 @@ ghost use Rattle.curve.specs.Shape.{Shaped};
 
 use crate::bracket::PriceBracket;
 use curve::Curve;
-use numbers::excess;
 
 // The quantity at a part of the whole way from qa to qb.
 fn along(part: u32, whole: u32, qa: u32, qb: u32) -> u32
@@ -20,18 +19,16 @@ pub(crate) fn tenths_at(c: Curve, price: u32) -> u32
     requires { Shaped c }
     ensures { result ≤ c.q3 }
 {
-    let p1 = c.p1;
-    let p2 = c.p2;
-    if p1.0 < price {
+    if c.p1.0 < price {
         return 0;
     }
-    if p2.0 < price {
-        return along(p1.0 - price, p1.0 - p2.0, c.q1, c.q2);
+    if c.p2.0 < price {
+        return along(c.p1.0 - price, c.p1.0 - c.p2.0, c.q1, c.q2);
     }
-    if p2.0 == 0 {
+    if c.p2.0 == 0 {
         return c.q3;
     }
-    along(p2.0 - price, p2.0, c.q2, c.q3)
+    along(c.p2.0 - price, c.p2.0, c.q2, c.q3)
 }
 
 // A price inside a bracket: its middle, or where offers and curve would meet if both ran straight from end to end.
@@ -43,8 +40,8 @@ pub(crate) fn aim(c: Curve, b: PriceBracket, middle: bool) -> u32
     if middle {
         return b.from + width / 2;
     }
-    let short = excess(tenths_at(c, b.from), b.below) as u64;
-    let long = excess(b.over, tenths_at(c, b.cap)) as u64;
+    let short = u64::from(tenths_at(c, b.from).saturating_sub(b.below));
+    let long = u64::from(b.over.saturating_sub(tenths_at(c, b.cap)));
     let step = width as u64 * short / (short + long + 1);
     if step < width as u64 {
         b.from + step as u32
@@ -58,5 +55,5 @@ pub(crate) fn aim(c: Curve, b: PriceBracket, middle: bool) -> u32
 pub(crate) fn close(c: Curve, b: PriceBracket, few: u32) -> bool
     requires { Shaped c }
 {
-    excess(b.over, b.below) <= few || excess(tenths_at(c, b.from), b.below) <= few
+    b.over.saturating_sub(b.below) <= few || tenths_at(c, b.from).saturating_sub(b.below) <= few
 }

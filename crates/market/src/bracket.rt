@@ -2,14 +2,13 @@
 ghost use Rattle.std.specs.Prelude.{◌≡◌, ◌<◌, ◌≤◌, true, length};
 ghost use Rattle.curve.specs.Shape.{Shaped};
 ghost use Rattle.curve.specs.Price.{tenth_price, demand_of};
-ghost use Rattle.levels.specs.inner.Rows.{RowLists, listed};
+ghost use Rattle.levels.specs.inner.Asks.{offers_in};
 ghost use Rattle.market.specs.inner.Bracket.{Under, Narrower, DrawnIn};
 
 use crate::aim::{aim, close};
 use crate::prices::{last_price, next_from};
 use curve::{Curve, tenth_price};
-use levels::supply::supply_at;
-use numbers::excess;
+use levels::asks::Asks;
 
 // A price, with what is offered strictly below it, all of which clears; and a price up to which the total is looked for, with
 // how much is offered up to it.
@@ -34,32 +33,23 @@ fn bought(c: Curve, quantity: u32, price: u32) -> bool
 }
 
 // The part of a bracket on one side of a price inside it.
-pub(crate) fn narrowed(
-    c: Curve,
-    prices: &[u32],
-    quantities: &[u32],
-    n: usize,
-    b: PriceBracket,
-    price: u32,
-) -> PriceBracket
-    requires shaped { Shaped c × RowLists prices.now quantities.now n × Under (demand_of c) (listed prices.now quantities.now n) b }
+pub(crate) fn narrowed(c: Curve, asks: &Asks, b: PriceBracket, price: u32) -> PriceBracket
+    requires shaped { Shaped c × Under (demand_of c) (offers_in asks.now) b }
     requires from_le_price { (b.from ≤ price) × (price < b.cap) }
-    ensures { Under (demand_of c) (listed prices.now quantities.now n) result × Narrower b result }
+    ensures { Under (demand_of c) (offers_in asks.now) result × Narrower b result }
 {
-    let offered = supply_at(prices, quantities, n, price);
+    let offered = asks.supply_at(price);
     if bought(c, offered, price) {
         PriceBracket {
             from: price + 1,
             below: offered,
-            cap: b.cap,
-            over: b.over,
+            ..b
         }
     } else {
         PriceBracket {
-            from: b.from,
-            below: b.below,
             cap: price,
             over: offered,
+            ..b
         }
     }
 }
@@ -71,52 +61,40 @@ fn as_before(b: PriceBracket, old: PriceBracket) -> bool {
 
 // A bracket drawn in to the offers inside it, where the last price told nothing: the lower end, if it is the one that moved, to
 // the lowest of their prices, and the upper end to the highest. No more is offered below the one, and no less up to the other.
-fn drawn_in(prices: &[u32], n: usize, b: PriceBracket, old: PriceBracket) -> PriceBracket
-    requires { (n ≤ length prices.now) × (b.from ≤ 1000000) }
-    ensures { DrawnIn prices.now n b result }
+fn drawn_in(prices: &[u32], b: PriceBracket, old: PriceBracket) -> PriceBracket
+    requires { b.from ≤ 1000000 }
+    ensures { DrawnIn prices.now (length prices.now) b result }
 {
     if !as_before(b, old) {
         return b;
     }
-    let from = next_from(prices, n, b.from, b.from == old.from);
+    let from = next_from(prices, b.from, b.from == old.from);
     if b.cap <= from {
-        return PriceBracket {
-            from,
-            below: b.below,
-            cap: b.cap,
-            over: b.over,
-        };
+        return PriceBracket { from, ..b };
     }
     PriceBracket {
         from,
-        below: b.below,
-        cap: last_price(prices, n, from, b.cap),
-        over: b.over,
+        cap: last_price(prices, from, b.cap),
+        ..b
     }
 }
 
 // A bracket narrowed until the total stops close over its lower end. After a price that left more than half of it, its middle is
 // the next one to try.
-pub(crate) fn narrow(
-    c: Curve,
-    prices: &[u32],
-    quantities: &[u32],
-    n: usize,
-    b: PriceBracket,
-    few: u32,
-) -> PriceBracket
-    requires { Shaped c × RowLists prices.now quantities.now n × Under (demand_of c) (listed prices.now quantities.now n) b }
-    ensures { Under (demand_of c) (listed prices.now quantities.now n) result × (b.from ≤ result.from) }
+pub(crate) fn narrow(c: Curve, asks: &Asks, b: PriceBracket, few: u32) -> PriceBracket
+    requires { Shaped c × Under (demand_of c) (offers_in asks.now) b }
+    ensures { Under (demand_of c) (offers_in asks.now) result × (b.from ≤ result.from) }
 {
     let mut at = b;
     let mut middle = true;
+    // a search: both ends move, and no index is counted
     while at.from < at.cap {
         if close(c, at, few) {
             return at;
         }
-        let looked = narrowed(c, prices, quantities, n, at, aim(c, at, middle));
-        let next = drawn_in(prices, n, looked, at);
-        middle = !middle & ((at.cap - at.from) / 2 < excess(next.cap, next.from));
+        let looked = narrowed(c, asks, at, aim(c, at, middle));
+        let next = drawn_in(asks.prices, looked, at);
+        middle = !middle & ((at.cap - at.from) / 2 < next.cap.saturating_sub(next.from));
         at = next;
     }
     at

@@ -27,8 +27,8 @@ ozp-compare-decided κs first second first' second' r s e f x y = x ∙ ap compa
 -- no other comparison goes out with kind 1
 applies-told : (c : Comparison) → (compared_out c).kind ≡ 1 → c ≡ Applies (compared_out c).price (compared_out c).shared
 applies-told (Applies price shared) e = refl
-applies-told (FirstRefused number place) e = absurd (omega arith)
-applies-told (SecondRefused number place) e = absurd (omega arith)
+applies-told (FirstRefused refusal) e = absurd (omega arith)
+applies-told (SecondRefused refusal) e = absurd (omega arith)
 applies-told NothingClears e = absurd (omega arith)
 applies-told (ParametersDiffer field) e = absurd (omega arith)
 applies-told (OffersDiffer row other) e = absurd (omega arith)

@@ -12,7 +12,6 @@ use Rattle.block.specs.Bytes.{byte}
 use Rattle.layout.specs.Read.{contents_of}
 use Rattle.book.proofs.Accepted.{sound-form}
 use Rattle.call.specs.Steps.{SameButEdition}
-use Rattle.call.specs.declared.Answer.{Answer}
 use Rattle.call.proofs.Decided.{Called}
 use Rattle.call.proofs.EitherEdition.{editions-answer-the-same}
 use Rattle.convert.specs.Convert.{in_other}
@@ -20,6 +19,7 @@ use Rattle.convert.proofs.Converted.{ones}
 use Rattle.plain.specs.declared.structs.OzpText.{OzpText}
 use Rattle.convert.specs.Converted.{Converted}
 use Rattle.convert.proofs.Between.{convert-sound, convert-down, converted-is-sound, converted-says}
+use Rattle.call.specs.Answer.{Answer}
 
 same-but-edition : (b room : List ℕ) {r : OzpText} {room' : List ℕ} (k : Converted b room r room') (done : r.kind ≡ 1)
     → ((i : ℕ) → i < length b → byte b i < 256) → SameButEdition (contents_of b) (contents_of (take r.bytes room'))

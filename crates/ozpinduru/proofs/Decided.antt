@@ -15,7 +15,6 @@ use Rattle.ozpinduru.specs.Export.{Returned}
 use Rattle.listing.specs.Listed.{Read}
 use Rattle.words.proofs.Decided.{told_same}
 use Rattle.plain.specs.Given.{contents_in}
-use Rattle.lent.specs.Wrote.{Wrote}
 use Rattle.convert.proofs.Decided.{converted-same}
 use Rattle.lent.proofs.Decided.{wrote-same}
 use Rattle.plain.specs.declared.structs.OzpAnswer.{OzpAnswer}

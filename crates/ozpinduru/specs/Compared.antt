@@ -1,6 +1,7 @@
 -- The comparison of two books as a plain struct of numbers, by the rules of the plain structs.
 -- Assumes nothing.
 use Rattle.std.specs.Prelude.{ℕ}
+use Rattle.values.specs.Refusals.{number_of, place_of}
 use Rattle.compare.specs.declared.Comparison.{Comparison}
 use Rattle.compare.specs.declared.Comparison.TheVariants.{Applies, FirstRefused, SecondRefused, NothingClears, ParametersDiffer, OffersDiffer, OnlyFirst, OnlySecond}
 use Rattle.plain.specs.Structs.{no_value}
@@ -29,8 +30,8 @@ differs_out field row other =
 -- a comparison as it goes out; where one book alone has an offer more, there is no row in the other
 abbrev pub compared_out : Comparison → OzpComparison
 compared_out (Applies price shared) = applies_out price shared
-compared_out (FirstRefused number place) = refused_out 1 number place
-compared_out (SecondRefused number place) = refused_out 2 number place
+compared_out (FirstRefused refusal) = refused_out 1 (number_of refusal) (place_of refusal)
+compared_out (SecondRefused refusal) = refused_out 2 (number_of refusal) (place_of refusal)
 compared_out NothingClears = nothing_out
 compared_out (ParametersDiffer field) = differs_out field no_value no_value
 compared_out (OffersDiffer row other) = differs_out no_value row other

@@ -3,8 +3,7 @@
 use Rattle.std.specs.Prelude.{ℕ, ◌≡◌, List, length}
 use Rattle.layout.specs.Read.{contents_of}
 use Rattle.sale.specs.Payment.{clearing_of}
-use Rattle.call.specs.Answer.{Outcome, answer_by, call_fault}
-use Rattle.call.specs.declared.Answer.{Answer}
+use Rattle.call.specs.Answer.{Outcome, answer_by, call_fault, Answer}
 use Rattle.plain.specs.declared.structs.OzpAnswer.{OzpAnswer}
 use Rattle.answers.specs.Answers.{exported}
 

@@ -1,10 +1,25 @@
 // The comparison of two books as a plain struct of numbers. A field that has no value holds all ones.
 ghost use Rattle.std.specs.Prelude.{◌≡◌};
+ghost use Rattle.values.specs.Refusals.{number_of, place_of};
 ghost use Rattle.compare.specs.Comparison.{comparison_of};
-ghost use Rattle.ozpinduru.specs.Compared.{compared_out, applies_out, refused_out, nothing_out, differs_out};
+ghost use Rattle.ozpinduru.specs.Compared.{compared_out, applies_out, refused_out, differs_out};
 
 use compare::{Comparison, compare};
 use plain::structs::{NO_VALUE, OzpComparison};
+use values::Refusal;
+
+// Nothing clears in the first book: no field has a value.
+const NOTHING: OzpComparison = OzpComparison {
+    kind: 2,
+    price: NO_VALUE,
+    shared: NO_VALUE,
+    field: NO_VALUE,
+    row: NO_VALUE,
+    other: NO_VALUE,
+    book: NO_VALUE,
+    number: NO_VALUE,
+    place: NO_VALUE,
+};
 
 // The theorem applies: the price, and how many offers are shared.
 fn applies(price: u32, shared: u32) -> OzpComparison
@@ -14,46 +29,20 @@ fn applies(price: u32, shared: u32) -> OzpComparison
         kind: 1,
         price,
         shared,
-        field: NO_VALUE,
-        row: NO_VALUE,
-        other: NO_VALUE,
-        book: NO_VALUE,
-        number: NO_VALUE,
-        place: NO_VALUE,
-    }
-}
-
-// Nothing clears in the first book.
-fn nothing() -> OzpComparison
-    ensures { result ≡ nothing_out }
-{
-    OzpComparison {
-        kind: 2,
-        price: NO_VALUE,
-        shared: NO_VALUE,
-        field: NO_VALUE,
-        row: NO_VALUE,
-        other: NO_VALUE,
-        book: NO_VALUE,
-        number: NO_VALUE,
-        place: NO_VALUE,
+        ..NOTHING
     }
 }
 
 // A book is refused: which of both, the number and the place.
-fn refused(book: u32, number: u32, place: u32) -> OzpComparison
-    ensures { result ≡ refused_out book number place }
+fn refused(book: u32, refusal: Refusal) -> OzpComparison
+    ensures { result ≡ refused_out book (number_of refusal) (place_of refusal) }
 {
     OzpComparison {
         kind: 3,
-        price: NO_VALUE,
-        shared: NO_VALUE,
-        field: NO_VALUE,
-        row: NO_VALUE,
-        other: NO_VALUE,
         book,
-        number,
-        place,
+        number: refusal.number(),
+        place: refusal.place(),
+        ..NOTHING
     }
 }
 
@@ -63,14 +52,10 @@ fn differs(field: u32, row: u32, other: u32) -> OzpComparison
 {
     OzpComparison {
         kind: 5,
-        price: NO_VALUE,
-        shared: NO_VALUE,
         field,
         row,
         other,
-        book: NO_VALUE,
-        number: NO_VALUE,
-        place: NO_VALUE,
+        ..NOTHING
     }
 }
 
@@ -80,9 +65,9 @@ fn compared(c: Comparison) -> OzpComparison
 {
     match c {
         Comparison::Applies(price, shared) => applies(price, shared),
-        Comparison::FirstRefused(number, place) => refused(1, number, place),
-        Comparison::SecondRefused(number, place) => refused(2, number, place),
-        Comparison::NothingClears => nothing(),
+        Comparison::FirstRefused(refusal) => refused(1, refusal),
+        Comparison::SecondRefused(refusal) => refused(2, refusal),
+        Comparison::NothingClears => NOTHING,
         Comparison::ParametersDiffer(field) => differs(field, NO_VALUE, NO_VALUE),
         Comparison::OffersDiffer(row, other) => differs(NO_VALUE, row, other),
         Comparison::OnlyFirst(row) => differs(NO_VALUE, row, NO_VALUE),

@@ -15,19 +15,16 @@ use limits::given::parameters_verdict;
 use plain::given::parameters_in;
 use plain::plotted;
 use plain::structs::{NO_AMOUNT, OzpAnswer, OzpCurve, OzpParameters, OzpPrice};
-use pricing::ClearingPrice;
 use region::region_curve;
 use settle::make_whole;
 use units::CentsPerMwDay;
-use values::Verdict;
 
 // Clears a book.
 #[unsafe(no_mangle)]
 pub extern "C" fn ozp_clear(book: &[u8], cleared: &mut [u32], committed: &mut [u32]) -> OzpAnswer
     ensures { Returned book.now cleared.old committed.old result cleared.new committed.new }
 {
-    let answer = clear(book, cleared, committed);
-    answers::answer(answer, answers::rows_stated(book))
+    answers::answer(clear(book, cleared, committed), answers::rows_stated(book))
 }
 
 // What a book clears, with no result buffers.
@@ -44,8 +41,8 @@ pub extern "C" fn ozp_curve(parameters: OzpParameters) -> OzpCurve
     ensures { result ≡ exported_curve (parameters_in parameters) }
 {
     let p = parameters_in(parameters);
-    if let Verdict::Refused(number, place) = parameters_verdict(p) {
-        return plotted::curve_refused(number, place);
+    if let Err(refusal) = parameters_verdict(p) {
+        return plotted::curve_refused(refusal.number(), refusal.place());
     }
     plotted::curve(region_curve(p))
 }
@@ -56,8 +53,8 @@ pub extern "C" fn ozp_price_at(parameters: OzpParameters, k: u32) -> OzpPrice
     ensures { result ≡ exported_price (parameters_in parameters) k }
 {
     let p = parameters_in(parameters);
-    if let Verdict::Refused(number, place) = parameters_verdict(p) {
-        return plotted::price_refused(number, place);
+    if let Err(refusal) = parameters_verdict(p) {
+        return plotted::price_refused(refusal.number(), refusal.place());
     }
     plotted::price(price_at(region_curve(p), k))
 }
@@ -67,17 +64,11 @@ pub extern "C" fn ozp_price_at(parameters: OzpParameters, k: u32) -> OzpPrice
 pub extern "C" fn ozp_make_whole(kind: u32, price: u32, cleared: u32, committed: u32) -> u64
     ensures { result ≡ exported_make_whole kind price cleared committed }
 {
-    if kind == 1 {
-        return make_whole(
-            ClearingPrice::Price(CentsPerMwDay(price)),
-            cleared,
-            committed,
-        );
+    match kind {
+        1 => make_whole(Some(CentsPerMwDay(price)), cleared, committed),
+        2 => make_whole(None, cleared, committed),
+        _ => NO_AMOUNT,
     }
-    if kind == 2 {
-        return make_whole(ClearingPrice::NoPrice, cleared, committed);
-    }
-    NO_AMOUNT
 }
 
 // The days of the delivery year that starts on 1 June of a calendar year.

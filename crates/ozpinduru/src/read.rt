@@ -13,11 +13,8 @@ pub extern "C" fn ozp_read(book: &[u8], rows: &mut [OzpRow]) -> OzpContents
     ensures { Read book.now rows.old result rows.new }
 {
     let c = contents(book, rows.len());
-    let n = filled(c);
-    let mut i = 0;
-    while i < n {
+    for i in 0..filled(c) {
         rows[i] = row_at(book, i);
-        i = i + 1;
     }
     c
 }

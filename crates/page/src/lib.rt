@@ -13,7 +13,7 @@ ghost use Rattle.call.specs.Answer.{answer_of};
 ghost use Rattle.forms.specs.Shown.{Shows};
 ghost use Rattle.page.specs.Page.{answered_parts, head_parts, page_parts};
 
-use call::{Answer, quote};
+use call::quote;
 use headpage::put_accepted;
 use lines::stated::put_stated;
 use readout::{Head, head_of};
@@ -21,22 +21,14 @@ use refusing::{put_refused, put_unread};
 pub use row::put_row_page;
 use rowpages::put_rows;
 pub use texts::{explain, explain_head, explain_row};
-use values::head::Parameters;
 
 // Puts what a book that can be read answers: why it is refused, or how it clears.
-fn put_answered(
-    room: &mut [u8],
-    at: usize,
-    book: &[u8],
-    edition: u32,
-    p: Parameters,
-    offers: u32,
-) -> usize
-    ensures { Shows room.old at (answered_parts book.now edition p offers (answer_of book.now)) room.new result }
+fn put_answered(room: &mut [u8], at: usize, book: &[u8], head: Head) -> usize
+    ensures { Shows room.old at (answered_parts book.now head (answer_of book.now)) room.new result }
 {
     match quote(book) {
-        Answer::Cleared(k) => put_accepted(room, at, book, edition, p, offers, k),
-        Answer::Refused(number, place) => put_refused(room, at, book, edition, p, number, place),
+        Ok(k) => put_accepted(room, at, book, head, k),
+        Err(refusal) => put_refused(room, at, book, head, refusal),
     }
 }
 
@@ -44,13 +36,11 @@ fn put_answered(
 pub fn put_head(room: &mut [u8], at: usize, book: &[u8]) -> usize
     ensures { Shows room.old at (head_parts book.now) room.new result }
 {
-    match head_of(book) {
-        Head::Stated(edition, p, offers) => {
-            let behind = put_stated(room, at, edition, p, offers);
-            put_answered(room, behind, book, edition, p, offers)
-        }
-        Head::Unread => put_unread(room, at, book),
-    }
+    let Some(head) = head_of(book) else {
+        return put_unread(room, at, book);
+    };
+    let behind = put_stated(room, at, head.edition, head.parameters, head.offers);
+    put_answered(room, behind, book, head)
 }
 
 // Puts a book's page: its head, and its rows where it is accepted.

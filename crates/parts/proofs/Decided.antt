@@ -6,6 +6,7 @@ use mathlib.Core.List.{List}
 use Prim.Native.Nat.{ℕ}
 use contract.Lifetimes.{Lfts}
 use denote.Ref.{Bor, MutBor}
+use Rattle.levels.specs.declared.asks.Asks.{Asks}
 use Rattle.levels.specs.declared.level.Level.{Level}
 use Rattle.parts.proofs.exact.Reads as exact
 use Rattle.parts.proofs.parts.Reads as parts
@@ -17,8 +18,8 @@ pub exact-decided : (quantity amount r s : ℕ)
 exact-decided quantity amount r s e f = e.0 ∙ sym f.0
 
 -- each row's part, by the contract of `parts`
-pub parts-decided : (κs : Lfts 3) (prices quantities : Bor (List ℕ)) (n : ℕ) (level : Level) (out after other : MutBor (List ℕ))
-    → parts.Post κs (prices, (quantities, (n, (level, (out, tt))))) tt (prices, (quantities, (n, (level, (after, tt)))))
-    → parts.Post κs (prices, (quantities, (n, (level, (out, tt))))) tt (prices, (quantities, (n, (level, (other, tt)))))
+pub parts-decided : (κs : Lfts 3) (asks : Bor Asks) (level : Level) (out after other : MutBor (List ℕ))
+    → parts.Post κs (asks, (level, (out, tt))) tt (asks, (level, (after, tt)))
+    → parts.Post κs (asks, (level, (out, tt))) tt (asks, (level, (other, tt)))
     → after.now ≡ other.now
-parts-decided κs prices quantities n level out after other e f = e ∙ sym f
+parts-decided κs asks level out after other e f = e ∙ sym f

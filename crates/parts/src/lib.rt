@@ -6,6 +6,7 @@ ghost use Rattle.laws.specs.Filled.{filled};
 ghost use Rattle.parts.specs.inner.Parts.{part_of, row_part};
 ghost use Rattle.parts.specs.inner.Divides.{Divides, DividesRows};
 
+use levels::asks::Asks;
 use levels::level::Level;
 
 // A quantity times a level's amount: its exact part of the level, once it is divided by the level's sum.
@@ -13,7 +14,7 @@ pub fn exact(quantity: u32, amount: u32) -> u64
     requires { (quantity ≤ 200000) × (amount ≤ 120000000) }
     ensures { (result ≡ quantity * amount) × (result ≤ 24000000000000) }
 {
-    quantity as u64 * amount as u64
+    u64::from(quantity) * u64::from(amount)
 }
 
 // An exact part, rounded down.
@@ -21,7 +22,7 @@ fn rounded(exact: u64, sum: u32) -> u64
     requires { (exact ≤ 24000000000000) × (0 < sum) × (sum ≤ 120000000) }
     ensures { result ≡ exact / sum }
 {
-    exact / sum as u64
+    exact / u64::from(sum)
 }
 
 // A row's part: all it offers under the level, nothing over it, and at it its exact part rounded down.
@@ -30,23 +31,21 @@ fn part(price: u32, quantity: u32, level: Level) -> u32
     ensures { result ≡ part_of level price quantity }
 {
     if price < level.price {
-        return quantity;
+        quantity
+    } else if level.price < price {
+        0
+    } else {
+        rounded(exact(quantity, level.amount), level.sum) as u32
     }
-    if level.price < price {
-        return 0;
-    }
-    rounded(exact(quantity, level.amount), level.sum) as u32
 }
 
 // Writes each row's part.
-pub fn parts(prices: &[u32], quantities: &[u32], n: usize, level: Level, out: &mut [u32])
-    requires divides_rows { DividesRows level prices.now quantities.now n }
-    requires n_in_bounds { n ≤ length out.old }
-    ensures { out.new ≡ filled (row_part level prices.now quantities.now) n out.old }
+pub fn parts(asks: &Asks, level: Level, out: &mut [u32])
+    requires divides_rows { DividesRows level asks.now.prices.now asks.now.quantities.now (length asks.now.prices.now) }
+    requires out_in_bounds { length asks.now.prices.now ≤ length out.old }
+    ensures { out.new ≡ filled (row_part level asks.now.prices.now asks.now.quantities.now) (length asks.now.prices.now) out.old }
 {
-    let mut row: usize = 0;
-    while row < n {
-        out[row] = part(prices[row], quantities[row], level);
-        row += 1;
+    for row in 0..asks.prices.len() {
+        out[row] = part(asks.prices[row], asks.quantities[row], level);
     }
 }

@@ -1,7 +1,7 @@
 -- The contract of each public function of this crate leaves one answer, or one content of the bytes: any two outcomes that it
 -- allows for the same values and bytes coincide, wherever they lie.
 -- Assumes nothing.
-use mathlib.Core.Path.{◌≡◌, sym, ap, ap₂, ◌∙◌}
+use mathlib.Core.Path.{◌≡◌, sym, ap₂, ◌∙◌}
 use mathlib.Core.List.{List}
 use Prim.Native.Nat.{ℕ}
 use contract.Lifetimes.{Lfts}

@@ -1,11 +1,12 @@
 -- What a run of puts makes, field by field.
 --
--- In order: a run; numbers by their halves, and marks; a place; a row.
+-- In order: a run; numbers by their bytes, and marks; a place; a row.
 -- Assumes nothing.
 use mathlib.Core.Path.{◌≡◌, refl, sym, ap, ap₂, ◌∙◌}
 use mathlib.Core.Bool.{Bool, true, false, cond}
 use mathlib.Core.List.{List, ◌∷◌, ◌++◌, append_assoc}
 use Prim.Native.Nat.{ℕ, ◌+◌, ◌*◌, ◌/◌, ◌%◌, ◌^◌, ◌≤◌, ◌<◌}
+use native.Mathlib.Nat.{div-div-eq-div-mul}
 use native.Mathlib.Omega.{arith}
 use lib.Dec.{eqb, leb}
 use lib.ListN.{length, length-append}
@@ -16,9 +17,10 @@ use Rattle.values.specs.declared.Value.TheVariants.{Given, Missing}
 use Rattle.values.specs.declared.place.Offer.{Offer}
 use Rattle.limits.specs.Parameters.{within}
 use Rattle.limits.specs.Offers.{step_within}
+use Rattle.std.specs.Int.{w16, w32, w64, to_le_bytes}
 use Rattle.encoding.specs.Numbers.{u16_bytes, u32_bytes, u64_bytes, value_bytes, zeros, mark_of}
 use Rattle.encoding.specs.Encode.{place_marks, step_byte, place_bytes}
-use Rattle.encoding.proofs.Halves.{u64_bytes-halves}
+use Rattle.encoding.proofs.Halves.{u16_bytes-kept}
 use Rattle.encoding.proofs.Values.{written, value_bytes-written}
 use Rattle.places.specs.inner.Put.{put, weighed}
 use Rattle.places.specs.inner.Rows.{put_row}
@@ -54,19 +56,18 @@ length-value v = ap length (value_bytes-written v) ∙ length-u32 (written v)
 
 -- ---- numbers
 
-pub put-u32 : (b : List ℕ) (at n : ℕ) {c d : List ℕ} → at + 4 ≤ length b → c ≡ put b at (u16_bytes n)
-    → d ≡ put c (at + 2) (u16_bytes (n / 65536)) → d ≡ put b at (u32_bytes n)
-unfolding u32_bytes
-put-u32 b at n h first next = put_next b at (u16_bytes n) (u16_bytes (n / 65536)) 2 (length-u16 n) (omega arith) first next
+-- the bytes of a number, as `to_le_bytes` gives them
+pub bytes-u16 : (n : ℕ) → to_le_bytes w16 (n % 65536) ≡ u16_bytes n
+unfolding u16_bytes
+bytes-u16 n = u16_bytes-kept n
 
-pub put-u64 : (b : List ℕ) (at n : ℕ) {c d : List ℕ} → at + 8 ≤ length b → c ≡ put b at (u32_bytes (n % 4294967296))
-    → d ≡ put c (at + 4) (u32_bytes (n / 4294967296)) → d ≡ put b at (u64_bytes n)
-put-u64 b at n h first next =
-    let low : ℕ = n % 4294967296 in
-    let high : ℕ = n / 4294967296 in
-    let whole : low + high * 4294967296 ≡ n = omega arith in
-    put_next b at (u32_bytes low) (u32_bytes high) 4 (length-u32 low) (omega arith) first next
-    ∙ ap (put b at) (sym (u64_bytes-halves low high (omega arith)) ∙ ap u64_bytes whole)
+pub bytes-u32 : (n : ℕ) → to_le_bytes w32 n ≡ u32_bytes n
+unfolding u32_bytes u16_bytes
+bytes-u32 n = simp div-div-eq-div-mul
+
+pub bytes-u64 : (n : ℕ) → to_le_bytes w64 n ≡ u64_bytes n
+unfolding u64_bytes u32_bytes u16_bytes
+bytes-u64 n = simp div-div-eq-div-mul
 
 -- the marks of a place
 pub weighed-bit : (bit : ℕ) (v : Value) → weighed (2 ^ bit) v ≡ mark_of bit v
@@ -77,9 +78,9 @@ pub place-marks : (o : Offer) {x y : ℕ} → x ≡ weighed 1 o.price → y ≡ 
 place-marks o e f = ap₂ ◌+◌ (e ∙ weighed-bit 0 o.price) (f ∙ weighed-bit 1 o.block)
 
 -- two bytes as a number of 32 bits
-bytes-u32 : (m n : ℕ) → m < 256 → n < 256 → u32_bytes (m + n * 256) ≡ m ∷ n ∷ zeros 2
+two-bytes : (m n : ℕ) → m < 256 → n < 256 → u32_bytes (m + n * 256) ≡ m ∷ n ∷ zeros 2
 unfolding u32_bytes u16_bytes zeros
-bytes-u32 m n l k =
+two-bytes m n l k =
     let a : (m + n * 256) % 256 ≡ m = omega arith in
     let up : (m + n * 256) / 256 ≡ n = omega arith in
     let b : (m + n * 256) / 256 % 256 ≡ n = rw up (omega arith) in
@@ -112,7 +113,7 @@ put-place b at edition o marks step h e most f small e₁ e₂ e₃ e₄ e₅ e�
     let r₅ : Run b at _ 20 _ = run_on b at (value_bytes o.block) 4 r₄ (omega arith) (length-value o.block) e₅ in
     let r₆ : Run b at _ 28 _ = run_on b at (u64_bytes o.stamp) 8 r₅ (omega arith) (length-u64 o.stamp) e₆ in
     let last : u32_bytes (marks + step * 256) ≡ place_marks o ∷ step_byte edition o.step ∷ zeros 2 =
-    bytes-u32 marks step (omega arith) small ∙ ap₂ (λ (m n : ℕ). m ∷ n ∷ zeros 2) e f in
+    two-bytes marks step (omega arith) small ∙ ap₂ (λ (m n : ℕ). m ∷ n ∷ zeros 2) e f in
     (run_on b at (u32_bytes (marks + step * 256)) 4 r₆ (omega arith) (length-u32 (marks + step * 256)) e₇).made
     ∙ ap (put b at)
     (sym (seven (u32_bytes o.resource) (u32_bytes o.seller) (value_bytes o.price) (u32_bytes o.quantity) (value_bytes o.block)

@@ -1,20 +1,22 @@
 -- Laws of bytes put into a list.
 --
--- In order: one byte, and the length; a list put behind another; bytes one by one; a list put into the second of two lists, and over the front.
+-- In order: a list copied over a part of another, and the length; a list put behind another; a list put into the second of two lists, and over the
+-- front.
 -- Assumes nothing.
-use mathlib.Core.Path.{◌≡◌, refl, sym, ap, ap₂, ◌∙◌}
-use mathlib.Core.List.{List, [], ◌∷◌, ◌++◌, append_assoc}
-use Prim.Native.Nat.{ℕ, suc, ◌+◌, ◌*◌, ◌≤◌, ◌<◌}
+use mathlib.Core.Path.{◌≡◌, sym, ap, ap₂, ◌∙◌}
+use mathlib.Core.List.{List, ◌++◌, append_assoc}
+use Prim.Native.Nat.{ℕ, ◌+◌, ◌≤◌}
 use native.Mathlib.Nat.{add_assoc, zero-add}
-use native.Mathlib.Numerals.{add-one}
 use native.Mathlib.Omega.{arith}
-use lib.ListN.{length, get_or, set, take, drop, length-append, length-take, length-drop, length-set, get_or-append}
-use lib.Seq.{set_split, take_at, drop_at, drop-append-le, drop-append-add, drop-drop, take-append-add, length-take-le}
+use lib.ListN.{length, take, drop, length-append, length-take, length-drop}
+use lib.Seq.{take_at, drop_at, drop-append-le, drop-append-add, drop-drop, take-append-add, length-take-le}
+use borrow.Rule.Slice.PartMut.{put_mid}
 use Rattle.places.specs.inner.Put.{put}
 
-pub put_one : (b : List ℕ) (at x : ℕ) → at < length b → set b at x ≡ put b at (x ∷ [])
+-- a part of a list over which another was copied
+pub put-copied : (b : List ℕ) (at : ℕ) (t : List ℕ) {k : ℕ} {s : List ℕ} → s ≡ t → k ≡ length t → put_mid at k b s ≡ put b at t
 unfolding put
-put_one b at x h = set_split b at x h ∙ ap (λ (k : ℕ). take at b ++ x ∷ drop k b) (sym (add-one at))
+put-copied b at t e f = rw (e, f, drop-drop)
 
 pub length-put : (b : List ℕ) (at : ℕ) (s : List ℕ) → at + length s ≤ length b → length (put b at s) ≡ length b
 unfolding put
@@ -46,32 +48,6 @@ put_next b at s t k e h first next =
     next
     ∙ ap₂ (λ (l : List ℕ) (n : ℕ). put l (at + n) t) first (sym e)
     ∙ put-join b at s t (rw e h)
-
--- two bytes, and four
-pub put-pair : (b : List ℕ) (at x y : ℕ) → at + 2 ≤ length b → set (set b at x) (at + 1) y ≡ put b at (x ∷ y ∷ [])
-put-pair b at x y h =
-    let fits : at + length (x ∷ []) ≤ length b = omega arith in
-    put_next b at (x ∷ []) (y ∷ []) 1 refl (omega arith) (put_one b at x (omega arith))
-    (put_one (set b at x) (at + 1) y (omega (arith, length-set b at x)))
-
-four-at : (b : List ℕ) (at x y z w : ℕ) → at + 4 ≤ length b
-    → set (set (set (set b at x) (at + 1) y) (at + 2) z) (at + 3) w ≡ put b at (x ∷ y ∷ z ∷ w ∷ [])
-four-at b at x y z w h =
-    let two : List ℕ = set (set b at x) (at + 1) y in
-    let long : length two ≡ length b = length-set (set b at x) (at + 1) y ∙ length-set b at x in
-    let there : at + 2 + 1 ≡ at + 3 = omega arith in
-    put_next b at (x ∷ y ∷ []) (z ∷ w ∷ []) 2 refl (omega arith) (put-pair b at x y (omega arith))
-    (ap (λ (k : ℕ). set (set two (at + 2) z) k w) (sym there) ∙ put-pair two (at + 2) z w (omega (arith, long)))
-
--- a list of four, by its elements
-pub put_four : (b : List ℕ) (at : ℕ) (s : List ℕ) → length s ≡ 4 → at + 4 ≤ length b
-    → set (set (set (set b at (get_or s 0 0)) (at + 1) (get_or s 1 0)) (at + 2) (get_or s 2 0)) (at + 3) (get_or s 3 0) ≡ put b at s
-put_four b at (x ∷ y ∷ z ∷ w ∷ []) e h = four-at b at x y z w h
-put_four b at [] e h = absurd (omega arith)
-put_four b at (x ∷ []) e h = absurd (omega arith)
-put_four b at (x ∷ y ∷ []) e h = absurd (omega arith)
-put_four b at (x ∷ y ∷ z ∷ []) e h = absurd (omega arith)
-put_four b at (x ∷ y ∷ z ∷ w ∷ v ∷ s) e h = absurd (omega arith)
 
 -- a list put into the second of two
 pub put-after : (p q : List ℕ) (k at : ℕ) (s : List ℕ) → length p ≡ k → put (p ++ q) (k + at) s ≡ p ++ put q at s

@@ -10,8 +10,7 @@ pub fn put_u16(b: &mut [u8], at: usize, n: u32)
     requires { at + 2 ≤ length b.old }
     ensures { b.new ≡ put b.old at (u16_bytes n) }
 {
-    b[at] = (n % 256) as u8;
-    b[at + 1] = (n / 256 % 256) as u8;
+    b[at..at + 2].copy_from_slice(&((n % 65536) as u16).to_le_bytes());
 }
 
 // A number of 32 bits.
@@ -19,8 +18,7 @@ pub(crate) fn put_u32(b: &mut [u8], at: usize, n: u32)
     requires { at + 4 ≤ length b.old }
     ensures { b.new ≡ put b.old at (u32_bytes n) }
 {
-    put_u16(b, at, n);
-    put_u16(b, at + 2, n / 65536);
+    b[at..at + 4].copy_from_slice(&n.to_le_bytes());
 }
 
 // A number of 64 bits.
@@ -28,8 +26,7 @@ pub(crate) fn put_u64(b: &mut [u8], at: usize, n: u64)
     requires { at + 8 ≤ length b.old }
     ensures { b.new ≡ put b.old at (u64_bytes n) }
 {
-    put_u32(b, at, (n % 4294967296) as u32);
-    put_u32(b, at + 4, (n / 4294967296) as u32);
+    b[at..at + 8].copy_from_slice(&n.to_le_bytes());
 }
 
 // The number that a value is written as: 0 where it is missing.
@@ -55,8 +52,5 @@ pub fn put_letters(b: &mut [u8], at: usize, letters: &[u8; 4])
     requires { (at + 4 ≤ length b.old) × (length letters.now ≡ 4) }
     ensures { b.new ≡ put b.old at letters.now }
 {
-    b[at] = letters[0];
-    b[at + 1] = letters[1];
-    b[at + 2] = letters[2];
-    b[at + 3] = letters[3];
+    b[at..at + 4].copy_from_slice(letters);
 }

@@ -25,9 +25,7 @@ pub fn mark_of(v: Value, weight: u32) -> u32
 fn place_marks(o: Offer) -> u32
     ensures { (result ≡ place_marks o) × (result ≤ 3) }
 {
-    let price = o.price;
-    let block = o.block;
-    mark_of(price, 1) + mark_of(block, 2)
+    mark_of(o.price, 1) + mark_of(o.block, 2)
 }
 
 // The byte of a step: edition 1 has none, and a zero in its stead.
@@ -42,13 +40,11 @@ fn put_place(b: &mut [u8], at: usize, edition: u32, o: Offer)
     requires { (at + 32 ≤ length b.old) × (step_byte edition o.step < 256) }
     ensures { b.new ≡ put b.old at (place_bytes edition o) }
 {
-    let price = o.price;
-    let block = o.block;
     put_u32(b, at, o.resource);
     put_u32(b, at + 4, o.seller);
-    put_value(b, at + 8, price);
+    put_value(b, at + 8, o.price);
     put_u32(b, at + 12, o.quantity);
-    put_value(b, at + 16, block);
+    put_value(b, at + 16, o.block);
     put_u64(b, at + 20, o.stamp);
     put_u32(
         b,

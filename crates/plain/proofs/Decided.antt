@@ -7,7 +7,6 @@ use Prim.Native.Nat.{ℕ}
 use Rattle.values.specs.declared.head.Parameters.{Parameters}
 use Rattle.values.specs.declared.place.Offer.{Offer}
 use Rattle.curve.specs.declared.Curve.{Curve}
-use Rattle.curve.specs.declared.exact.ExactCurvePrice.{ExactCurvePrice}
 use Rattle.plain.specs.declared.structs.OzpCurve.{OzpCurve}
 use Rattle.plain.specs.declared.structs.OzpParameters.{OzpParameters}
 use Rattle.plain.specs.declared.structs.OzpPrice.{OzpPrice}
@@ -18,6 +17,7 @@ use Rattle.plain.proofs.plotted.curve.Reads as curve
 use Rattle.plain.proofs.plotted.curve_refused.Reads as curve-refused
 use Rattle.plain.proofs.plotted.price.Reads as price
 use Rattle.plain.proofs.plotted.price_refused.Reads as price-refused
+use Rattle.curve.specs.Exact.{ExactCurvePrice}
 
 -- ---- what a caller hands in
 

@@ -5,7 +5,6 @@ use mathlib.Core.Path.{◌≡◌, refl}
 use mathlib.Core.Bool.{Bool, true, false, cond}
 use lib.Dec.{eqb}
 use borrow.Author.Tests.{ne_eqb}
-use Rattle.values.specs.declared.Value.{Value}
 use Rattle.values.specs.declared.Value.TheVariants.{Given, Missing}
 use Rattle.plain.specs.Structs.{no_value}
 use Rattle.plain.specs.Given.{value_in}

@@ -2,20 +2,17 @@
 --
 -- In order: the three points; the price at a quantity.
 -- Assumes nothing.
-use Rattle.std.specs.Prelude.{ℕ}
-use Rattle.values.specs.declared.Verdict.{Verdict}
-use Rattle.values.specs.declared.Verdict.TheVariants.{Passed, Refused}
+use Rattle.std.specs.Prelude.{ℕ, Err, Some, None, Ok}
 use Rattle.values.specs.declared.head.Parameters.{Parameters}
 use Rattle.limits.specs.Given.{parameters_fault}
-use Rattle.curve.specs.Exact.{exact_curve_price}
+use Rattle.curve.specs.Exact.{exact_curve_price, ExactCurvePrice}
 use Rattle.curve.specs.declared.Curve.{Curve}
 use Rattle.curve.specs.declared.exact.ExactPrice.{ExactPrice}
-use Rattle.curve.specs.declared.exact.ExactCurvePrice.{ExactCurvePrice}
-use Rattle.curve.specs.declared.exact.ExactCurvePrice.TheVariants.{Price, NoPrice}
 use Rattle.region.specs.Region.{region_curve}
 use Rattle.plain.specs.Structs.{no_value}
 use Rattle.plain.specs.declared.structs.OzpCurve.{OzpCurve}
 use Rattle.plain.specs.declared.structs.OzpPrice.{OzpPrice}
+use Rattle.values.specs.Refusals.{Verdict, number_of, place_of}
 
 -- the three points, the last of which stands at price 0
 abbrev pub points_of : Curve → OzpCurve
@@ -47,8 +44,8 @@ points_refused number place =
     }
 
 abbrev pub points_by : Verdict → OzpCurve → OzpCurve
-points_by Passed points = points
-points_by (Refused number place) points = points_refused number place
+points_by (Ok u) points = points
+points_by (Err refusal) points = points_refused (number_of refusal) (place_of refusal)
 
 -- the points of the curve that parameters make, or the refusal of the parameters
 unfoldable pub exported_curve : Parameters → OzpCurve
@@ -75,15 +72,15 @@ without_price kind number place =
 
 -- what a curve says of a quantity, or the refusal of its parameters
 abbrev pub plotted_price : ExactCurvePrice → OzpPrice
-plotted_price (Price e) = price_given e
-plotted_price NoPrice = without_price 2 no_value no_value
+plotted_price (Some e) = price_given e
+plotted_price None = without_price 2 no_value no_value
 
 abbrev pub price_refused : ℕ → ℕ → OzpPrice
 price_refused number place = without_price 3 number place
 
 abbrev pub price_by : Verdict → OzpPrice → OzpPrice
-price_by Passed price = price
-price_by (Refused number place) price = price_refused number place
+price_by (Ok u) price = price
+price_by (Err refusal) price = price_refused (number_of refusal) (place_of refusal)
 
 -- the price at k on the curve that parameters make, that there is none past Q3, or the refusal of the parameters
 unfoldable pub exported_price : Parameters → ℕ → OzpPrice

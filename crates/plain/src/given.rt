@@ -32,27 +32,23 @@ fn row_value(v: OzpValue) -> Value
 fn value_in(v: OzpValue) -> Value
     ensures { result ≡ value_in v }
 {
-    if v.kind == 1 {
-        return Value::Given(v.number);
+    match v.kind {
+        1 => Value::Given(v.number),
+        4 => Value::Missing,
+        _ => Value::Given(NO_VALUE),
     }
-    if v.kind == 4 {
-        return Value::Missing;
-    }
-    Value::Given(NO_VALUE)
 }
 
 // A row, value by value.
 pub fn offer_in(row: OzpRow) -> Offer
     ensures { result ≡ offer_in row }
 {
-    let price = row_value(row.price);
-    let block = row_value(row.block);
     Offer {
         resource: row.resource,
         seller: row.seller,
-        price,
+        price: row_value(row.price),
         quantity: row.quantity,
-        block,
+        block: row_value(row.block),
         stamp: row.stamp,
         step: row.step,
     }
@@ -62,17 +58,12 @@ pub fn offer_in(row: OzpRow) -> Offer
 pub fn parameters_in(p: OzpParameters) -> Parameters
     ensures { result ≡ parameters_in p }
 {
-    let cost = value_in(p.cost);
-    let offset = value_in(p.offset);
-    let outage = value_in(p.outage);
-    let requirement = value_in(p.requirement);
-    let margin = value_in(p.margin);
     Parameters {
         year: p.year,
-        cost,
-        offset,
-        outage,
-        requirement,
-        margin,
+        cost: value_in(p.cost),
+        offset: value_in(p.offset),
+        outage: value_in(p.outage),
+        requirement: value_in(p.requirement),
+        margin: value_in(p.margin),
     }
 }

@@ -10,6 +10,7 @@ use Prim.Native.Nat.{ℕ, suc, ◌≤◌, ◌<◌}
 use native.Mathlib.Omega.{arith}
 use lib.Dec.{eqb}
 use borrow.Author.Tests.{le-leb, lt-ltb, le-ltb}
+use Rattle.std.specs.Prelude.{None}
 use Rattle.laws.specs.Sum.{sum_to}
 use Rattle.laws.specs.Largest.{lesser}
 use Rattle.laws.proofs.Cases.{by_order}
@@ -24,7 +25,6 @@ use Rattle.levels.specs.inner.Stop.{StopsAt}
 use Rattle.pricing.specs.Price.{as_price}
 use Rattle.pricing.specs.inner.Price.{level_price, price_at}
 use Rattle.levels.specs.declared.level.Level.{Level}
-use Rattle.pricing.specs.declared.ClearingPrice.TheVariants.{NoPrice}
 use Rattle.levels.proofs.Stops.{stops, stop-below}
 
 -- no offer is dearer than 1,000,000
@@ -68,7 +68,7 @@ next_level o x l cheap s =
         (λ g. absurd (omega (arith, past_stop o x l.price s.price g, s.total, s.reach)))
 
 -- to choose between no price and one is the same before and after they are said as the code says them
-as_price-cond : (t : Bool) (p : ℕ) → cond t NoPrice (as_price (some p)) ≡ as_price (cond t none (some p))
+as_price-cond : (t : Bool) (p : ℕ) → cond t None (as_price (some p)) ≡ as_price (cond t none (some p))
 as_price-cond true p = refl
 as_price-cond false p = refl
 
@@ -77,6 +77,6 @@ pub price-agrees : (d : Demand) (o : Offers) (l : Level) → Cheap o → StopsAt
     → price_at d l ≡ as_price (clearing_price d o)
 unfolding price_at clearing_price
 price-agrees d o l cheap s =
-    ap₂ (λ (t : ℕ) (next : Option ℕ). cond (eqb t 0) NoPrice (as_price (some (lesser (d.price t) next))))
+    ap₂ (λ (t : ℕ) (next : Option ℕ). cond (eqb t 0) None (as_price (some (lesser (d.price t) next))))
     s.total (sym (next_level o _ l cheap s))
     ∙ as_price-cond (eqb (cleared_total d o) 0) _

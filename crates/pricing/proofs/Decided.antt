@@ -3,8 +3,8 @@
 use mathlib.Core.Path.{◌≡◌, sym, ◌∙◌}
 use Rattle.curve.specs.declared.Curve.{Curve}
 use Rattle.levels.specs.declared.level.Level.{Level}
-use Rattle.pricing.specs.declared.ClearingPrice.{ClearingPrice}
 use Rattle.pricing.proofs.clearing_price.Reads as clearing-price
+use Rattle.pricing.specs.Price.{ClearingPrice}
 
 -- the price, or that there is none, by the contract of `clearing_price`
 pub clearing-price-decided : (c : Curve) (level : Level) (r s : ClearingPrice)

@@ -10,26 +10,18 @@ use curve::{Curve, tenth_price};
 use levels::level::Level;
 use units::CentsPerMwDay;
 
-// What a clearing says of its price. Where nothing clears there is none, and none is no number.
-#[derive(Clone, Copy)]
-pub enum ClearingPrice {
-    Price(CentsPerMwDay),
-    NoPrice,
-}
-
 // The lesser of the curve price at the total and the price of the level at which it stops, where that level has more.
-pub fn clearing_price(c: Curve, level: Level) -> ClearingPrice
+pub fn clearing_price(c: Curve, level: Level) -> Option<CentsPerMwDay>
     requires { Shaped c × (level.total ≤ c.q3) }
     ensures { result ≡ price_at (demand_of c) level }
 {
     if level.total == 0 {
-        return ClearingPrice::NoPrice;
+        return None;
     }
     let curve_price = tenth_price(c, level.total);
     if level.total < level.reach {
-        if level.price < curve_price.0 {
-            return ClearingPrice::Price(CentsPerMwDay(level.price));
-        }
+        Some(CentsPerMwDay(curve_price.0.min(level.price)))
+    } else {
+        Some(curve_price)
     }
-    ClearingPrice::Price(curve_price)
 }

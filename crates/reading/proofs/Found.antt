@@ -13,8 +13,6 @@ use Rattle.laws.proofs.Cases.{by_order, and_left, and_right}
 use Rattle.laws.proofs.Filling.{length-filling}
 use Rattle.laws.proofs.FilledRows.{filled_row, filled-past, filled_is}
 use Rattle.values.specs.Contents.{offer_at}
-use Rattle.values.specs.declared.Verdict.{Verdict}
-use Rattle.values.specs.declared.Verdict.TheVariants.{Passed}
 use Rattle.values.specs.declared.place.Offer.{Offer}
 use Rattle.layout.specs.Read.{row_offers}
 use Rattle.limits.specs.Offers.{rows_fault}
@@ -27,6 +25,7 @@ use Rattle.reading.specs.inner.Rows.{ValuesTested, RowsRead}
 use Rattle.reading.specs.inner.Lanes.{columns_hold, RowsPut}
 use Rattle.reading.proofs.Tests.{before-tested}
 use Rattle.reading.proofs.HeldRows.{first_step, rows-hold}
+use Rattle.values.specs.Refusals.{Verdict, no_fault}
 
 -- a column whose first k rows are stored again is as it was
 column_again : (value : ℕ → ℕ) (n k : ℕ) (from mid : List ℕ) {to : List ℕ} → Column value n from mid → Column value k mid to → k ≤ n
@@ -50,7 +49,7 @@ pub record ValuesFound (edition : ℕ) (offers : List Offer) (n : ℕ) (fault : 
 pub found-held : (b : List ℕ) (edition first n : ℕ) {told holds : Bool} {before after : Columns}
     → RowsPut (row_offers b edition first n) n told before after → Room n before
     → holds ≡ columns_hold edition after.prices after.quantities after.leasts after.resources after.steps n
-    → told && holds ≡ true → ValuesFound edition (row_offers b edition first n) n Passed before after
+    → told && holds ≡ true → ValuesFound edition (row_offers b edition first n) n no_fault before after
 found-held b edition first n {told} {holds} put room h both =
     record {
       found =

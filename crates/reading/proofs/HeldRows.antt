@@ -16,7 +16,6 @@ use Rattle.laws.proofs.Everys.{every-at}
 use Rattle.laws.proofs.FilledRows.{filled_row}
 use Rattle.values.specs.Place.{offer_of}
 use Rattle.values.specs.Contents.{offer_at}
-use Rattle.values.specs.declared.Verdict.TheVariants.{Passed}
 use Rattle.values.specs.declared.place.Offer.{Offer}
 use Rattle.values.proofs.Firsts.{unless-true, and_then-next, first-all}
 use Rattle.layout.specs.Read.{row_offer, row_offers}
@@ -30,6 +29,7 @@ use Rattle.columns.specs.inner.Column.{row_price, row_quantity, row_least, row_r
 use Rattle.columns.specs.inner.Columns.{Columns, Room, ColumnsRead}
 use Rattle.reading.specs.inner.Lanes.{row_holds, step_kept, rest_holds, values_hold, step_at, columns_hold}
 use Rattle.reading.proofs.Holding.{offer_holds, step-held, offer-passes, or_right, step_keeps}
+use Rattle.values.specs.Refusals.{no_fault}
 
 -- the offers of edition 1 have step 1
 pub first_step : (b : List ℕ) (edition first n row : ℕ) → row < n → edition ≡ 1 → (offer_at (row_offers b edition first n) row).step ≡ 1
@@ -103,7 +103,7 @@ module _ (edition : ℕ) (offers : List Offer) (n : ℕ) {before after : Columns
       (λ t. by_order row 0 (keeps-zero row l t) (keeps-past row l t))
 
   -- and so no row has a fault by 6, 7 or 10
-  pub rows-hold : values_fault true edition (offer_at offers) n ≡ Passed
+  pub rows-hold : values_fault true edition (offer_at offers) n ≡ no_fault
   unfolding values_fault row_fault step_fault
   rows-hold =
       first-all _ n

@@ -5,7 +5,7 @@
 -- Assumes nothing.
 use mathlib.Core.Path.{◌≡◌, refl, ◌∙◌}
 use mathlib.Core.Bool.{Bool, true, false, ◌&&◌, ◌||◌, true≢false, false≢true}
-use Prim.Native.Nat.{ℕ, ◌+◌, ◌-◌, ◌%◌, ◌≤◌, ◌<◌}
+use Prim.Native.Nat.{ℕ, ◌+◌, ◌%◌, ◌≤◌, ◌<◌}
 use native.Mathlib.Omega.{arith}
 use lib.Dec.{eqb, leb}
 use borrow.Author.Tests.{eqb-true, eq-eqb, le-leb, lt-ltb}
@@ -14,18 +14,18 @@ use Rattle.values.specs.Values.{held}
 use Rattle.values.specs.inner.Values.{least_of}
 use Rattle.values.specs.declared.Value.{Value}
 use Rattle.values.specs.declared.Value.TheVariants.{Given, Missing}
-use Rattle.values.specs.declared.Verdict.TheVariants.{Passed}
 use Rattle.values.specs.declared.place.Offer.{Offer}
 use Rattle.values.proofs.Firsts.{unless-true, and_then-next}
 use Rattle.limits.specs.Parameters.{within, given_within}
 use Rattle.limits.specs.Offers.{price_fault, step_within, offer_in_range, offer_fault}
 use Rattle.steps.specs.Steps.{not_cheaper, step_follows, step_holds}
 use Rattle.reading.specs.inner.Lanes.{row_holds, step_kept, rest_holds}
+use Rattle.values.specs.Refusals.{no_fault}
 
 -- ---- its values
 
 -- a price that is held in range is given
-price-given : (price : Value) (row : ℕ) → leb (held price) 1000000 ≡ true → price_fault price row ≡ Passed
+price-given : (price : Value) (row : ℕ) → leb (held price) 1000000 ≡ true → price_fault price row ≡ no_fault
 price-given (Given number) row e = refl
 price-given Missing row e = absurd (false≢true e)
 
@@ -71,7 +71,7 @@ module _ (o : Offer) (values : offer_holds o ≡ true) where
   step-held = and_right (leb 1 o.resource) _ from-least
 
   -- it passes 6 and 7
-  pub offer-passes : (edition row : ℕ) → (edition ≡ 1 → o.step ≡ 1) → rest_holds o ≡ true → offer_fault true edition o row ≡ Passed
+  pub offer-passes : (edition row : ℕ) → (edition ≡ 1 → o.step ≡ 1) → rest_holds o ≡ true → offer_fault true edition o row ≡ no_fault
   unfolding offer_fault offer_in_range rest_holds
   offer-passes edition row one rest =
       and_then-next (price_fault o.price row) _ (price-given o.price row price-held)

@@ -9,12 +9,11 @@ use mathlib.Core.List.{List}
 use Prim.Native.Nat.{ℕ, ◌+◌, ◌-◌, ◌≤◌, ◌<◌}
 use native.Mathlib.Omega.{arith}
 use lib.ListN.{length, get_or, set}
+use Rattle.std.specs.Prelude.{Err, Ok}
 use Rattle.laws.proofs.Fills.{filled_none, filled_more}
 use Rattle.laws.proofs.Filling.{length-filling, filled-all}
 use Rattle.laws.proofs.FilledRows.{filled_row}
 use Rattle.values.specs.Contents.{offer_at}
-use Rattle.values.specs.declared.Verdict.{Verdict}
-use Rattle.values.specs.declared.Verdict.TheVariants.{Passed, Refused}
 use Rattle.values.specs.declared.place.Offer.{Offer}
 use Rattle.values.proofs.Firsts.{first-zero, first_on, first-refused}
 use Rattle.layout.specs.Read.{row_offer, row_offers}
@@ -26,13 +25,14 @@ use Rattle.limits.proofs.Rows.{rows_fault-passes}
 use Rattle.limits.proofs.Tested.{row_fault-row}
 use Rattle.columns.specs.inner.Column.{Column, row_resource, row_step}
 use Rattle.reading.specs.inner.Rows.{RowAt, rows_tested, ValuesTested}
+use Rattle.values.specs.Refusals.{place_of, Verdict, no_fault}
+use Rattle.values.specs.declared.refusal.Refusal.{Refusal}
 
 module _ (b : List ℕ) (edition first n : ℕ) (row : ℕ) {o : Offer} (l : row < n)
     (own : o ≡ offer_at (row_offers b edition first n) row) where
   -- the row that a loop is at
-  pub row_at : (before : ℕ) → Inside b first n → before ≡ row - 1 → RowAt b edition first o before row
-  row_at before inside behind =
-      record { within = inside.within row l; own = own ∙ offer_at-row_offers b edition first n row l; behind = behind }
+  pub row_at : Inside b first n → RowAt b edition first o row
+  row_at inside = record { within = inside.within row l; own = own ∙ offer_at-row_offers b edition first n row l }
 
   -- its fault is that of the definition
   pub row-fault : (needed : Bool) {fault : Verdict} → fault ≡ row_fault needed edition (row_offer b edition first (row - 1)) o row
@@ -42,8 +42,8 @@ module _ (b : List ℕ) (edition first n : ℕ) (row : ℕ) {o : Offer} (l : row
 
 -- the rows before the refused one are among those tested
 pub before-tested : (fault : Verdict) (n : ℕ) → rows_before fault n ≤ rows_tested fault n
-before-tested Passed n = omega arith
-before-tested (Refused number row) n = omega arith
+before-tested (Ok u) n = omega arith
+before-tested (Err refusal) n = omega arith
 
 -- a column of the rows tested holds the values of the rows before the refused one
 module _ (fault : Verdict) (n : ℕ) (within : rows_tested fault n ≤ n) (value : ℕ → ℕ) (from : List ℕ) {to : List ℕ}
@@ -57,7 +57,7 @@ module _ (fault : Verdict) (n : ℕ) (within : rows_tested fault n ≤ n) (value
 
 module _ (needed : Bool) (edition : ℕ) (offers : List Offer) where
   -- where the loop begins
-  pub tested-none : (resources steps : List ℕ) → ValuesTested needed edition offers 0 Passed resources steps resources steps
+  pub tested-none : (resources steps : List ℕ) → ValuesTested needed edition offers 0 no_fault resources steps resources steps
   unfolding values_fault
   tested-none resources steps =
       record {
@@ -68,10 +68,10 @@ module _ (needed : Bool) (edition : ℕ) (offers : List Offer) where
       }
 
   module _ (row : ℕ) {resources₀ steps₀ resources steps : List ℕ} {o : Offer}
-      (t : ValuesTested needed edition offers row Passed resources₀ steps₀ resources steps) (own : o ≡ offer_at offers row) where
+      (t : ValuesTested needed edition offers row no_fault resources₀ steps₀ resources steps) (own : o ≡ offer_at offers row) where
     -- one more row that passes
-    pub tested-more : row_fault needed edition (offer_at offers (row - 1)) (offer_at offers row) row ≡ Passed
-        → ValuesTested needed edition offers (row + 1) Passed resources₀ steps₀ (set resources row o.resource) (set steps row o.step)
+    pub tested-more : row_fault needed edition (offer_at offers (row - 1)) (offer_at offers row) row ≡ no_fault
+        → ValuesTested needed edition offers (row + 1) no_fault resources₀ steps₀ (set resources row o.resource) (set steps row o.step)
     unfolding values_fault
     tested-more passed =
         record {
@@ -82,15 +82,15 @@ module _ (needed : Bool) (edition : ℕ) (offers : List Offer) where
         }
 
     -- a row that is refused, after rows that passed
-    pub tested-refused : (n number place : ℕ) → row < n
-        → row_fault needed edition (offer_at offers (row - 1)) (offer_at offers row) row ≡ Refused number place
-        → ValuesTested needed edition offers n (Refused number place) resources₀ steps₀ (set resources row o.resource)
+    pub tested-refused : (n : ℕ) (refusal : Refusal) → row < n
+        → row_fault needed edition (offer_at offers (row - 1)) (offer_at offers row) row ≡ Err refusal
+        → ValuesTested needed edition offers n (Err refusal) resources₀ steps₀ (set resources row o.resource)
         (set steps row o.step)
     unfolding values_fault
-    tested-refused n number place h refused =
-        let same : place ≡ row = row_fault-row needed edition (offer_at offers (row - 1)) (offer_at offers row) row number place refused in
+    tested-refused n refusal h refused =
+        let same : place_of refusal ≡ row = row_fault-row needed edition (offer_at offers (row - 1)) (offer_at offers row) row refusal refused in
         record {
-          found = sym (first-refused _ n row number place h (sym t.found) refused);
+          found = sym (first-refused _ n row refusal h (sym t.found) refused);
           within = omega arith;
           resource =
               filled-all (row_resource offers) _ (filled_more (row_resource offers) row _ t.resource (ap (λ o. o.resource) own))
@@ -119,11 +119,11 @@ module _ (needed : Bool) (edition : ℕ) (offers : List Offer) where
 
 -- the loop ends with as many rows as there are
 pub tested-end : {needed : Bool} {edition : ℕ} {offers : List Offer} {row n : ℕ} {resources₀ steps₀ resources steps : List ℕ}
-    → ValuesTested needed edition offers row Passed resources₀ steps₀ resources steps → row ≡ n
-    → ValuesTested needed edition offers n Passed resources₀ steps₀ resources steps
+    → ValuesTested needed edition offers row no_fault resources₀ steps₀ resources steps → row ≡ n
+    → ValuesTested needed edition offers n no_fault resources₀ steps₀ resources steps
 tested-end t e = rw e at t
 
 -- where there are no rows, there is no fault
-pub rows_none : (needed : Bool) (edition : ℕ) (offers : ℕ → Offer) {n : ℕ} → n ≡ 0 → Passed ≡ rows_fault needed edition offers n
+pub rows_none : (needed : Bool) (edition : ℕ) (offers : ℕ → Offer) {n : ℕ} → n ≡ 0 → no_fault ≡ rows_fault needed edition offers n
 unfolding rows_fault
 rows_none needed edition offers e = rw e (sym (first-zero _))

@@ -5,8 +5,9 @@ mod lanes;
 mod put;
 mod tested;
 
-ghost use Rattle.std.specs.Prelude.{◌≡◌};
-ghost use Rattle.columns.specs.inner.Columns.{columns_of, Room};
+ghost use Rattle.std.specs.Prelude.{◌≡◌, ◌≤◌};
+ghost use Rattle.columns.specs.inner.Columns.{Room};
+ghost use Rattle.columns.specs.inner.Sides.{lists_in};
 ghost use Rattle.limits.specs.Offers.{rows_fault};
 ghost use Rattle.values.specs.Contents.{offer_at};
 ghost use Rattle.layout.specs.Read.{row_offers};
@@ -16,44 +17,42 @@ ghost use Rattle.reading.specs.inner.Rows.{RowsRead};
 use crate::lanes::columns_hold;
 use crate::put::put_rows;
 use crate::tested::values_tested;
+use columns::Columns;
 use limits::repeated::with_repeats;
-use values::Verdict;
+use values::Refusal;
 
 // The first fault of n rows that stand from the block `first` on, each tested for 6, 7, 8 and 10. All of them are put into the columns,
 // where they are tested; only where one fails are they gone through for the first fault.
-pub fn read_rows(
+pub fn read_rows<const N: usize>(
     book: &[u8],
     edition: u32,
     first: usize,
     n: u32,
-    prices: &mut [u32],
-    quantities: &mut [u32],
-    leasts: &mut [u32],
-    resources: &mut [u32],
-    stamps: &mut [u64],
-    steps: &mut [u32],
-) -> Verdict
-    requires { Inside book.now first n × Room n (columns_of prices.old quantities.old leasts.old resources.old stamps.old steps.old) }
-    ensures { RowsRead edition (row_offers book.now edition first n) result
-        (columns_of prices.old quantities.old leasts.old resources.old stamps.old steps.old)
-        (columns_of prices.new quantities.new leasts.new resources.new stamps.new steps.new) }
+    columns: &mut Columns<N>,
+) -> Result<(), Refusal>
+    requires { Inside book.now first n × (n ≤ N) × Room n (lists_in columns.old) }
+    ensures { RowsRead edition (row_offers book.now edition first n) result (lists_in columns.old) (lists_in columns.new) }
 {
-    let told = put_rows(
-        book, edition, first, n, prices, quantities, leasts, resources, stamps, steps,
-    );
-    let held = columns_hold(
-        edition, prices, quantities, leasts, resources, steps, n as usize,
-    );
+    let told = put_rows(book, edition, first, n, columns);
+    let held = columns_hold(edition, columns, n as usize);
     let found = if told & held {
-        Verdict::Passed
+        Ok(())
     } else {
-        values_tested(book, edition, first, n, true, resources, steps)
+        values_tested(
+            book,
+            edition,
+            first,
+            n,
+            true,
+            &mut columns.resources,
+            &mut columns.steps,
+        )
     };
-    with_repeats(found, resources, steps, n)
+    with_repeats(found, &columns.resources, &columns.steps, n)
 }
 
 // The first fault of the n offers of a book alone, of which only the resource numbers and the steps are kept.
-fn some_rows_fault(book: &[u8], edition: u32, n: u32, needed: bool) -> Verdict
+fn some_rows_fault(book: &[u8], edition: u32, n: u32, needed: bool) -> Result<(), Refusal>
     requires { Inside book.now 1 n }
     ensures { result ≡ rows_fault needed edition (offer_at (row_offers book.now edition 1 n)) n }
 {
@@ -64,12 +63,12 @@ fn some_rows_fault(book: &[u8], edition: u32, n: u32, needed: bool) -> Verdict
 }
 
 // The same fault. Where there are no rows, no columns are cleared for them.
-pub fn rows_fault(book: &[u8], edition: u32, n: u32, needed: bool) -> Verdict
+pub fn rows_fault(book: &[u8], edition: u32, n: u32, needed: bool) -> Result<(), Refusal>
     requires { Inside book.now 1 n }
     ensures { result ≡ rows_fault needed edition (offer_at (row_offers book.now edition 1 n)) n }
 {
     if n == 0 {
-        return Verdict::Passed;
+        return Ok(());
     }
     some_rows_fault(book, edition, n, needed)
 }

@@ -8,24 +8,27 @@ ghost use Rattle.reading.specs.inner.Rows.{RowAt, ValuesTested};
 use layout::reader::row_bytes;
 use limits::offers::{offer_fault, past_fault};
 use steps::step_follows;
-use values::Verdict;
+use values::Refusal;
 use values::place::{Offer, offer_in};
 
-// 6, where prices are needed, 7 and 10 of a row past step 1, whose own offer is at hand: the row before it is read, for which row 0
+// 6, where prices are needed, 7 and 10 of a row, whose own offer is at hand. Past step 1 the row before it is read, for which row 0
 // stands itself, since it does not follow itself.
-fn past_tested(
+fn row_tested(
     book: &[u8],
     edition: u32,
     first: usize,
     needed: bool,
     o: Offer,
-    before: usize,
     row: u32,
-) -> Verdict
-    requires { RowAt book.now edition first o before row × (o.step ≡ 1 → ⊥) }
+) -> Result<(), Refusal>
+    requires { RowAt book.now edition first o row }
     ensures { result ≡ row_fault needed edition (row_offer book.now edition first (row - 1)) o row }
 {
-    let follows = step_follows(offer_in(row_bytes(book, first, before), edition), o);
+    if o.step == 1 {
+        return offer_fault(needed, edition, o, row);
+    }
+    let before = row_bytes(book, first, row.saturating_sub(1) as usize);
+    let follows = step_follows(offer_in(before, edition), o);
     past_fault(needed, edition, o, follows, row)
 }
 
@@ -39,28 +42,17 @@ pub(crate) fn values_tested(
     needed: bool,
     resources: &mut [u32],
     steps: &mut [u32],
-) -> Verdict
+) -> Result<(), Refusal>
     requires { Inside book.now first n × ((n ≤ length resources.old) × (n ≤ length steps.old)) }
     ensures { ValuesTested needed edition (row_offers book.now edition first n) n result
         resources.old steps.old resources.new steps.new }
 {
-    let mut before: usize = 0;
-    let mut row: u32 = 0;
-    while row < n {
+    for row in 0..n {
         let at = row as usize;
         let o = offer_in(row_bytes(book, first, at), edition);
         resources[at] = o.resource;
         steps[at] = o.step;
-        let fault = if o.step == 1 {
-            offer_fault(needed, edition, o, row)
-        } else {
-            past_tested(book, edition, first, needed, o, before, row)
-        };
-        if let Verdict::Refused(number, place) = fault {
-            return Verdict::Refused(number, place);
-        }
-        before = at;
-        row += 1;
+        row_tested(book, edition, first, needed, o, row)?;
     }
-    Verdict::Passed
+    Ok(())
 }

@@ -10,9 +10,9 @@ use lib.ListN.{length}
 use Rattle.laws.proofs.Answers.{same_answer}
 use Rattle.layout.specs.Form.{form_fault}
 use Rattle.layout.specs.Read.{contents_of}
-use Rattle.readout.specs.Read.{head_by, offers_by, row_of, earlier_row}
+use Rattle.readout.specs.Read.{head_by, offers_by, row_of, earlier_row, RowOffer}
+use Rattle.std.specs.declared.option.Option.{Option}
 use Rattle.readout.specs.declared.Head.{Head}
-use Rattle.readout.specs.declared.RowOffer.{RowOffer}
 use Rattle.readout.proofs.head_of.Reads as head_of
 use Rattle.readout.proofs.rows_of.Reads as rows_of_lem
 use Rattle.readout.proofs.offer_of.Reads as offer-of
@@ -20,7 +20,7 @@ use Rattle.readout.proofs.earlier_row.Reads as earlier-row
 
 module _ (κs : Lfts 1) (book other : Bor (List ℕ)) (same : book.now ≡ other.now) where
   -- what block 0 states, by the contract of `head_of`
-  pub head-of-decided : (r s : Head)
+  pub head-of-decided : (r s : Option Head)
       → head_of.Post κs (book, tt) r (book, tt) → head_of.Post κs (other, tt) s (other, tt) → r ≡ s
   head-of-decided r s = same_answer (λ b. head_by (form_fault b) (contents_of b)) same
 

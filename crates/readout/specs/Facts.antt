@@ -3,13 +3,13 @@
 use Rattle.std.specs.Prelude.{ℕ, List, length}
 use Rattle.layout.specs.Form.{form_fault}
 use Rattle.layout.specs.Read.{contents_of}
-use Rattle.readout.specs.Read.{head_by, offers_by, row_of, earlier_row}
+use Rattle.readout.specs.Read.{head_by, offers_by, row_of, earlier_row, RowOffer}
+use Rattle.std.specs.declared.option.Option.{Option}
 use Rattle.readout.specs.declared.Head.{Head}
-use Rattle.readout.specs.declared.RowOffer.{RowOffer}
 
 module _ (b : List ℕ) where
   -- what block 0 states
-  abbrev pub head_in : Head
+  abbrev pub head_in : Option Head
   head_in = head_by (form_fault b) (contents_of b)
 
   -- how many rows can be read

@@ -1,29 +1,30 @@
 -- What can be read of a book whose form is right, by the fault of its form.
 -- Assumes nothing.
-use Rattle.std.specs.Prelude.{ℕ, Bool, cond, List, [], length, ltb, eqb}
+use Rattle.std.specs.Prelude.{ℕ, Bool, cond, List, [], length, ltb, eqb, Err, Some, None, Ok}
 use Rattle.laws.specs.Largest.{least_where, lesser}
 use Rattle.values.specs.Contents.{Contents, offer_at}
-use Rattle.values.specs.declared.Verdict.{Verdict}
-use Rattle.values.specs.declared.Verdict.TheVariants.{Passed, Refused}
 use Rattle.values.specs.declared.place.Offer.{Offer}
 use Rattle.readout.specs.declared.Head.{Head}
-use Rattle.readout.specs.declared.Head.TheVariants.{Stated, Unread}
-use Rattle.readout.specs.declared.RowOffer.{RowOffer}
-use Rattle.readout.specs.declared.RowOffer.TheVariants.{Offered, Unread as RowOffer-as-Unread}
+use Rattle.values.specs.Refusals.{Verdict}
+use Rattle.std.specs.declared.option.Option.{Option}
+
+-- the offer of a row: none where there is no such row, or the book is refused by 1 to 3
+abbrev pub RowOffer : Type 0
+RowOffer = Option Offer
 
 -- the edition, the parameters and the number of offers
-abbrev pub head_by : Verdict → Contents → Head
-head_by Passed c = Stated c.edition c.parameters (length c.offers)
-head_by (Refused number place) c = Unread
+abbrev pub head_by : Verdict → Contents → Option Head
+head_by (Ok u) c = Some (record { edition = c.edition; parameters = c.parameters; offers = length c.offers })
+head_by (Err refusal) c = None
 
 -- the offers that can be read: all, or none
 abbrev pub offers_by : Verdict → Contents → List Offer
-offers_by Passed c = c.offers
-offers_by (Refused number place) c = []
+offers_by (Ok u) c = c.offers
+offers_by (Err refusal) c = []
 
 -- the offer of a row, where it is there
 unfoldable pub row_of : List Offer → ℕ → RowOffer
-row_of offers row = cond (ltb row (length offers)) (Offered (offer_at offers row)) RowOffer-as-Unread
+row_of offers row = cond (ltb row (length offers)) (Some (offer_at offers row)) None
 
 -- the first row with a row's resource: the row itself where no row before it has that resource, or where it is not there
 unfoldable pub earlier_row : List Offer → ℕ → ℕ

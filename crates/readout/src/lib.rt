@@ -12,58 +12,49 @@ ghost use Rattle.readout.specs.Read.{head_by, offers_by, row_of, earlier_row};
 use block::SIZE;
 use layout::form::form;
 use layout::reader::{edition, offer_count, row_bytes};
-use values::Verdict;
 use values::head::{Parameters, parameters_in};
 use values::place::{Offer, offer_in};
 
 // What block 0 states: the edition, the parameters, and how many offers follow.
 #[derive(Clone, Copy)]
-pub enum Head {
-    Stated(u32, Parameters, u32),
-    // refused by 1 to 3: nothing in it is to be trusted
-    Unread,
+pub struct Head {
+    pub edition: u32,
+    pub parameters: Parameters,
+    pub offers: u32,
 }
 
-// The offer of a row.
-#[derive(Clone, Copy)]
-pub enum RowOffer {
-    Offered(Offer),
-    // no such row, or a book refused by 1 to 3
-    Unread,
-}
-
-// What block 0 states.
-pub fn head_of(book: &[u8]) -> Head
+// What block 0 states. In a book refused by 1 to 3 nothing in it is to be trusted, and there is none.
+pub fn head_of(book: &[u8]) -> Option<Head>
     ensures { result ≡ head_by (form_fault book.now) (contents_of book.now) }
 {
-    if let Verdict::Refused(_, _) = form(book) {
-        return Head::Unread;
-    }
-    Head::Stated(
-        edition(book),
-        parameters_in(&book[0..SIZE]),
-        offer_count(book),
-    )
+    form(book).ok()?;
+    Some(Head {
+        edition: edition(book),
+        parameters: parameters_in(&book[0..SIZE]),
+        offers: offer_count(book),
+    })
 }
 
 // How many rows can be read: all that a book states, and none of one refused by 1 to 3.
 pub fn rows_of(book: &[u8]) -> usize
     ensures { (result ≡ length (offers_by (form_fault book.now) (contents_of book.now))) × (result ≤ 600) }
 {
-    if let Verdict::Refused(_, _) = form(book) {
-        return 0;
+    if form(book).is_ok() {
+        offer_count(book) as usize
+    } else {
+        0
     }
-    offer_count(book) as usize
 }
 
 // The offer of a row, read from its own bytes.
-pub fn offer_of(book: &[u8], row: usize) -> RowOffer
+#[tactic(auto, unfolding(crate::specs::Read::row_of))]
+pub fn offer_of(book: &[u8], row: usize) -> Option<Offer>
     ensures { result ≡ row_of (offers_by (form_fault book.now) (contents_of book.now)) row }
 {
     if row < rows_of(book) {
-        RowOffer::Offered(offer_in(row_bytes(book, 1, row), edition(book)))
+        Some(offer_in(row_bytes(book, 1, row), edition(book)))
     } else {
-        RowOffer::Unread
+        None
     }
 }
 
@@ -72,8 +63,7 @@ fn resource_of(book: &[u8], edition: u32, row: usize) -> u32
     requires { (edition ≡ edition_of book.now) × (row < length (offers_by (form_fault book.now) (contents_of book.now))) }
     ensures { result ≡ (offer_at (offers_by (form_fault book.now) (contents_of book.now)) row).resource }
 {
-    let offer = offer_in(row_bytes(book, 1, row), edition);
-    offer.resource
+    offer_in(row_bytes(book, 1, row), edition).resource
 }
 
 // The first row of a row's resource: the row itself where none before it has the resource, or where it isn't there.
@@ -85,12 +75,10 @@ pub fn earlier_row(book: &[u8], row: usize) -> usize
     }
     let stated = edition(book);
     let resource = resource_of(book, stated, row);
-    let mut earlier: usize = 0;
-    while earlier < row {
+    for earlier in 0..row {
         if resource_of(book, stated, earlier) == resource {
             return earlier;
         }
-        earlier += 1;
     }
     row
 }

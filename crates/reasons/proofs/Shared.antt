@@ -9,6 +9,7 @@ use native.Mathlib.Omega.{arith}
 use native.Mathlib.Nat.{mul-le-mul, le_of_lt}
 use lib.Dec.{eqb}
 use borrow.Author.Tests.{lt-ltb, le-ltb, eq-eqb}
+use Rattle.std.specs.Prelude.{Some, None}
 use Rattle.laws.proofs.Where.{sum_where-place}
 use Rattle.laws.proofs.Cases.{cond-true, cond-false}
 use Rattle.auction.specs.Offers.{Offers, supply, supply_below, level_sum}
@@ -18,7 +19,6 @@ use Rattle.reasons.specs.Share.{share_at, row_share_at}
 use Rattle.reasons.specs.inner.Share.{LevelAt}
 use Rattle.reasons.specs.declared.share.Received.{Received}
 use Rattle.reasons.specs.declared.share.Share.{Share}
-use Rattle.reasons.specs.declared.share.RowShare.TheVariants.{Shares, NoRow}
 
 module _ (o : Offers) (x p below reach : ℕ) (e : below ≡ supply_below o p) (f : reach ≡ supply o p) where
   pub below-reach : below ≤ reach
@@ -50,10 +50,10 @@ unfolding share_at share_down remainder weighted
 share-is o x i r l = rw (l.amount, l.sum)
 
 module _ (o : Offers) (x i : ℕ) where
-  pub row-shares : (s : Share) → i < o.count → s ≡ share_at o x i → Shares s ≡ row_share_at o x i
+  pub row-shares : (s : Share) → i < o.count → s ≡ share_at o x i → Some s ≡ row_share_at o x i
   unfolding row_share_at
-  row-shares s l e = ap Shares e ∙ sym (cond-true _ _ _ (lt-ltb i o.count l))
+  row-shares s l e = ap Some e ∙ sym (cond-true _ _ _ (lt-ltb i o.count l))
 
-  pub no_row : o.count ≤ i → NoRow ≡ row_share_at o x i
+  pub no_row : o.count ≤ i → None ≡ row_share_at o x i
   unfolding row_share_at
   no_row l = sym (cond-false _ _ _ (le-ltb i o.count l))

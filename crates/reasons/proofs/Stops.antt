@@ -5,6 +5,7 @@
 use mathlib.Core.Path.{◌≡◌, ap, sym, ◌∙◌}
 use Prim.Native.Nat.{ℕ, ◌+◌, ◌≤◌, ◌<◌}
 use borrow.Author.Tests.{lt-ltb, le-ltb}
+use Rattle.std.specs.Prelude.{Some, None}
 use Rattle.laws.proofs.Cases.{cond-true, cond-false}
 use Rattle.auction.specs.Offers.{Offers, supply, level_sum}
 use Rattle.auction.specs.Clearing.{cleared_total}
@@ -14,11 +15,8 @@ use Rattle.curve.specs.Price.{tenth_price, demand_of}
 use Rattle.curve.specs.declared.Curve.{Curve}
 use Rattle.levels.specs.inner.Stop.{StopsAt}
 use Rattle.levels.specs.declared.level.Level.{Level}
-use Rattle.reasons.specs.Stop.{level_at, tenth_at, next_at, stop_at}
+use Rattle.reasons.specs.Stop.{level_at, tenth_at, next_at, stop_at, Next}
 use Rattle.reasons.specs.declared.stop.Tenth.{Tenth}
-use Rattle.reasons.specs.declared.stop.Next.{Next}
-use Rattle.reasons.specs.declared.stop.Next.TheVariants.{Bought, NoMore}
-use Rattle.reasons.specs.declared.stop.Stop.{Stop}
 
 -- what is known of the level at which a total stops leaves one level
 pub level-is : (o : Offers) (x : ℕ) (l : Level) → StopsAt o x l → l ≡ level_at o x
@@ -40,11 +38,11 @@ unfolding tenth_at
 tenth-is c o k price offered e f = λ i. record { price = record { 0 = e i }; offered = (f ∙ ap (supply o) e) i }
 
 module _ (c : Curve) (o : Offers) (x : ℕ) where
-  pub next-bought : (t : Tenth) → x < c.q3 → t ≡ tenth_at c o (x + 1) → Bought t ≡ next_at c o x
+  pub next-bought : (t : Tenth) → x < c.q3 → t ≡ tenth_at c o (x + 1) → Some t ≡ next_at c o x
   unfolding next_at
-  next-bought t l e = ap Bought e ∙ sym (cond-true _ _ _ (lt-ltb x c.q3 l))
+  next-bought t l e = ap Some e ∙ sym (cond-true _ _ _ (lt-ltb x c.q3 l))
 
-  pub next-none : c.q3 ≤ x → NoMore ≡ next_at c o x
+  pub next-none : c.q3 ≤ x → None ≡ next_at c o x
   unfolding next_at
   next-none l = sym (cond-false _ _ _ (le-ltb x c.q3 l))
 

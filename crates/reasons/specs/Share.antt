@@ -1,11 +1,14 @@
 -- A row's share of its price level, by the definitions of the auction.
 -- Assumes nothing.
-use Rattle.std.specs.Prelude.{ℕ, cond, ltb}
+use Rattle.std.specs.Prelude.{ℕ, cond, ltb, Some, None}
 use Rattle.auction.specs.Offers.{Offers, level_sum}
 use Rattle.auction.specs.Shares.{level_amount, share_down, remainder}
 use Rattle.reasons.specs.declared.share.Share.{Share}
-use Rattle.reasons.specs.declared.share.RowShare.{RowShare}
-use Rattle.reasons.specs.declared.share.RowShare.TheVariants.{Shares, NoRow}
+use Rattle.std.specs.declared.option.Option.{Option}
+
+-- the share of a row, where there is such a row
+abbrev pub RowShare : Type 0
+RowShare = Option Share
 
 -- row i's share of x
 unfoldable pub share_at : Offers → ℕ → ℕ → Share
@@ -19,4 +22,4 @@ share_at o x i =
 
 -- the same of a row that may not be there
 unfoldable pub row_share_at : Offers → ℕ → ℕ → RowShare
-row_share_at o x i = cond (ltb i o.count) (Shares (share_at o x i)) NoRow
+row_share_at o x i = cond (ltb i o.count) (Some (share_at o x i)) None

@@ -1,6 +1,6 @@
 -- Where a total stops on the curve.
 -- Assumes nothing.
-use Rattle.std.specs.Prelude.{ℕ, ◌+◌, cond, ltb}
+use Rattle.std.specs.Prelude.{ℕ, ◌+◌, cond, ltb, Some, None}
 use Rattle.auction.specs.Offers.{Offers, supply, level_sum}
 use Rattle.auction.specs.Clearing.{cleared_total}
 use Rattle.auction.specs.Shares.{level_amount}
@@ -9,9 +9,12 @@ use Rattle.curve.specs.declared.Curve.{Curve}
 use Rattle.levels.specs.Stop.{stop_level}
 use Rattle.levels.specs.declared.level.Level.{Level}
 use Rattle.reasons.specs.declared.stop.Tenth.{Tenth}
-use Rattle.reasons.specs.declared.stop.Next.{Next}
-use Rattle.reasons.specs.declared.stop.Next.TheVariants.{Bought, NoMore}
 use Rattle.reasons.specs.declared.stop.Stop.{Stop}
+use Rattle.std.specs.declared.option.Option.{Option}
+
+-- the tenth past a total: none where the total is the curve's last point, past which nothing is bought
+abbrev pub Next : Type 0
+Next = Option Tenth
 
 -- the level at which a total x stops
 unfoldable pub level_at : Offers → ℕ → Level
@@ -25,7 +28,7 @@ tenth_at c o k = record { price = record { 0 = tenth_price c k }; offered = supp
 
 -- the tenth past x; past the curve's last point nothing is bought
 unfoldable pub next_at : Curve → Offers → ℕ → Next
-next_at c o x = cond (ltb x c.q3) (Bought (tenth_at c o (x + 1))) NoMore
+next_at c o x = cond (ltb x c.q3) (Some (tenth_at c o (x + 1))) None
 
 -- the curve, with the level, the last tenth and the next one of the cleared total
 unfoldable pub stop_at : Curve → Offers → Stop

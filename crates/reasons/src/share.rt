@@ -1,12 +1,10 @@
 // A row's share of its price level.
-ghost use Rattle.std.specs.Prelude.{◌≡◌, ◌<◌, get_or};
-ghost use Rattle.levels.specs.inner.Rows.{RowLists, listed};
+ghost use Rattle.std.specs.Prelude.{◌≡◌, ◌<◌, get_or, length};
+ghost use Rattle.levels.specs.inner.Asks.{offers_in};
 ghost use Rattle.reasons.specs.Share.{share_at, row_share_at};
 ghost use Rattle.reasons.specs.inner.Share.{Positive, LevelAt};
 
-use levels::level::supply_below;
-use levels::supply::supply_at;
-use numbers::{excess, lesser};
+use levels::asks::Asks;
 
 // What a row's level receives and offers in all, its exact part of that rounded down, and what rounding down leaves: the
 // part is (quantity times amount) over sum, and the remainder is over sum too.
@@ -18,12 +16,6 @@ pub struct Share {
     pub remainder: u64,
 }
 
-#[derive(Clone, Copy)]
-pub enum RowShare {
-    Shares(Share),
-    NoRow,
-}
-
 // What a price level receives of a total, and what is offered at it.
 #[derive(Clone, Copy)]
 pub struct Received {
@@ -32,41 +24,41 @@ pub struct Received {
 }
 
 // What the level at a price receives of x, and what is offered at it.
-fn level_at(prices: &[u32], quantities: &[u32], n: usize, x: u32, price: u32) -> Received
-    requires { RowLists prices.now quantities.now n }
-    ensures { LevelAt (listed prices.now quantities.now n) x price result }
+pub fn level_at(asks: &Asks, x: u32, price: u32) -> Received
+    ensures { LevelAt (offers_in asks.now) x price result }
 {
-    let below = supply_below(prices, quantities, n, price);
-    let sum = supply_at(prices, quantities, n, price) - below;
+    let below = asks.supply_below(price);
+    let sum = asks.supply_at(price) - below;
     Received {
-        amount: lesser(excess(x, below), sum),
+        amount: x.saturating_sub(below).min(sum),
         sum,
     }
 }
 
 // The share of a row that is there.
-fn share_at(prices: &[u32], quantities: &[u32], n: usize, x: u32, row: usize) -> Share
-    requires { RowLists prices.now quantities.now n × (row < n) × (0 < get_or quantities.now row 0) }
-    ensures { result ≡ share_at (listed prices.now quantities.now n) x row }
+fn share_at(asks: &Asks, x: u32, row: usize) -> Share
+    requires { (row < length asks.now.prices.now) × (0 < get_or asks.now.quantities.now row 0) }
+    ensures { result ≡ share_at (offers_in asks.now) x row }
 {
-    let level = level_at(prices, quantities, n, x, prices[row]);
-    let exact = quantities[row] as u64 * level.amount as u64;
+    let level = level_at(asks, x, asks.prices[row]);
+    let exact = u64::from(asks.quantities[row]) * u64::from(level.amount);
+    let sum = u64::from(level.sum);
     Share {
         amount: level.amount,
         sum: level.sum,
-        down: exact / level.sum as u64,
-        remainder: exact % level.sum as u64,
+        down: exact / sum,
+        remainder: exact % sum,
     }
 }
 
 // The share of a row, or that it isn't there.
-pub fn row_share_at(prices: &[u32], quantities: &[u32], n: usize, x: u32, row: usize) -> RowShare
-    requires { RowLists prices.now quantities.now n × Positive quantities.now n }
-    ensures { result ≡ row_share_at (listed prices.now quantities.now n) x row }
+pub fn row_share_at(asks: &Asks, x: u32, row: usize) -> Option<Share>
+    requires { Positive asks.now.quantities.now (length asks.now.prices.now) }
+    ensures { result ≡ row_share_at (offers_in asks.now) x row }
 {
-    if row < n {
-        RowShare::Shares(share_at(prices, quantities, n, x, row))
+    if row < asks.prices.len() {
+        Some(share_at(asks, x, row))
     } else {
-        RowShare::NoRow
+        None
     }
 }

@@ -7,8 +7,8 @@ use mathlib.Core.Path.{◌≡◌, refl}
 use Prim.Native.Nat.{ℕ}
 use mathlib.Core.List.{[], ◌∷◌}
 use mathlib.Core.Option.{none, some}
+use Rattle.std.specs.Prelude.{Some}
 use Rattle.values.specs.declared.Value.TheVariants.{Given}
-use Rattle.curve.specs.declared.CurvePrice.TheVariants.{Price}
 use Rattle.reference.proofs.Found.{outcome_at, outcome-found}
 use Rattle.reference.specs.Book.{curve_in, curve_by, prices, quantities, reference, reference2025, example_price, ◌at◌, outcome}
 
@@ -20,16 +20,16 @@ pub reference-quantities : quantities reference ≡ (9900, 10150, 10450)
 reference-quantities = unfold curve_in in refl
 
 -- curve at 9,900: 50,000; at 10,000: 37,500; at 10,151: 18,687; at 10,450: 0
-pub at-first-point : example_price 9900 ≡ Price (record { 0 = 50000 })
+pub at-first-point : example_price 9900 ≡ Some (record { 0 = 50000 })
 at-first-point = unfold example_price in refl
 
-pub at-requirement : example_price 10000 ≡ Price (record { 0 = 37500 })
+pub at-requirement : example_price 10000 ≡ Some (record { 0 = 37500 })
 at-requirement = unfold example_price in refl
 
-pub past-second-point : example_price 10151 ≡ Price (record { 0 = 18687 })
+pub past-second-point : example_price 10151 ≡ Some (record { 0 = 18687 })
 past-second-point = unfold example_price in refl
 
-pub at-last-point : example_price 10450 ≡ Price (record { 0 = 0 })
+pub at-last-point : example_price 10450 ≡ Some (record { 0 = 0 })
 at-last-point = unfold example_price in refl
 
 -- E 0: P1 87,500, P2 37,500; E 146,000: P1 50,000, P2 0

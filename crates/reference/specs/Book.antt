@@ -12,9 +12,8 @@ use Rattle.auction.specs.Offers.{Offers, supply, supply_below, level_sum}
 use Rattle.auction.specs.Clearing.{cleared_total, next_price, clearing_price}
 use Rattle.auction.specs.Shares.{level_amount, weighted, share_down, remainder, spare_tenths, ahead, rank, cleared}
 use Rattle.curve.specs.declared.Curve.{Curve}
-use Rattle.curve.specs.declared.CurvePrice.{CurvePrice}
 use Rattle.curve.specs.Points.{first_price, second_price, quantity_at, curve_of}
-use Rattle.curve.specs.Price.{line, tenth_price, curve_price, demand_of}
+use Rattle.curve.specs.Price.{line, tenth_price, curve_price, demand_of, CurvePrice}
 use Rattle.values.specs.declared.Value.{Value}
 use Rattle.values.specs.declared.Value.TheVariants.{Given, Missing}
 use Rattle.limits.specs.Parameters.{by_margin}

@@ -4,7 +4,7 @@ ghost use Rattle.readout.specs.Facts.{row_in};
 ghost use Rattle.refusing.specs.Missing.{unpriced_row, missing_parts};
 
 use faultlines::missing::{put_missing_parameters, put_missing_price};
-use readout::{RowOffer, offer_of, rows_of};
+use readout::{offer_of, rows_of};
 use values::Value;
 use values::head::Parameters;
 
@@ -12,11 +12,10 @@ use values::head::Parameters;
 fn put_unpriced(room: &mut [u8], at: usize, book: &[u8], edition: u32, row: usize) -> usize
     ensures { Shows room.old at (unpriced_row edition row (row_in book.now row)) room.new result }
 {
-    let RowOffer::Offered(o) = offer_of(book, row) else {
+    let Some(o) = offer_of(book, row) else {
         return at;
     };
-    let price = o.price;
-    match price {
+    match o.price {
         Value::Given(_) => at,
         Value::Missing => put_missing_price(room, at, edition, row, o.resource, o.step),
     }
@@ -32,9 +31,8 @@ pub(crate) fn put_missing(
 ) -> usize
     ensures { Shows room.old at (missing_parts book.now edition p) room.new result }
 {
-    let n = rows_of(book);
     let mut behind = put_missing_parameters(room, at, p);
-    for row in 0..n {
+    for row in 0..rows_of(book) {
         behind = put_unpriced(room, behind, book, edition, row);
     }
     behind

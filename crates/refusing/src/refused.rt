@@ -1,29 +1,38 @@
 // A refusal of what a book says: the number and the place in words, what is wrong there, and all that is missing.
+ghost use Rattle.std.specs.Prelude.{◌≡◌};
 ghost use Rattle.forms.specs.Shown.{Shows};
+ghost use Rattle.causes.specs.Rules.{broken_number, step_cause};
 ghost use Rattle.readout.specs.Facts.{row_in};
-ghost use Rattle.refusing.specs.Refused.{steps_parts, against_parts, refused_row, fault_parts, refused_parts};
+ghost use Rattle.refusing.specs.Refused.{steps_parts, against_parts, wrong_parts, refused_row, fault_parts, refused_parts};
 
 use crate::missing::put_missing;
 use causes::rules::step_cause;
 use faultlines::parameter::put_parameter;
 use faultlines::refused::put_refused_row;
 use faultlines::wrong::{put_rules, put_values};
-use readout::{RowOffer, earlier_row, offer_of};
+use readout::{Head, earlier_row, offer_of};
 use rowlines::rows::put_offer;
-use values::head::Parameters;
+use values::Refusal;
 use values::place::Offer;
+
+// The number of the rule of steps that a row breaks first, and 0 where it keeps them.
+fn rule_number(before: Offer, o: Offer, row: usize) -> u32
+    ensures { result ≡ broken_number (step_cause before o row) }
+{
+    step_cause(before, o, row).map_or(0, |rule| rule.number())
+}
 
 // 10: puts which rule of steps a row breaks, and the row before it, where there is one.
 fn put_steps(room: &mut [u8], at: usize, book: &[u8], edition: u32, row: usize, o: Offer) -> usize
     ensures { Shows room.old at (steps_parts book.now edition row o) room.new result }
 {
     if row == 0 {
-        return put_rules(room, at, step_cause(o, o, 0));
+        return put_rules(room, at, rule_number(o, o, 0));
     }
-    let RowOffer::Offered(before) = offer_of(book, row - 1) else {
+    let Some(before) = offer_of(book, row - 1) else {
         return at;
     };
-    let rules = put_rules(room, at, step_cause(before, o, row));
+    let rules = put_rules(room, at, rule_number(before, o, row));
     put_offer(room, rules, edition, row - 1, before)
 }
 
@@ -33,77 +42,91 @@ fn put_against(
     at: usize,
     book: &[u8],
     edition: u32,
-    number: u32,
+    refusal: Refusal,
     row: usize,
     o: Offer,
     first: usize,
 ) -> usize
-    ensures { Shows room.old at (against_parts book.now edition number row o first) room.new result }
+    ensures { Shows room.old at (against_parts book.now edition refusal row o first) room.new result }
 {
-    match number {
-        8 => match offer_of(book, first) {
-            RowOffer::Offered(earlier) => put_offer(room, at, edition, first, earlier),
-            RowOffer::Unread => at,
+    match refusal {
+        Refusal::RepeatedResource(_) => match offer_of(book, first) {
+            Some(earlier) => put_offer(room, at, edition, first, earlier),
+            None => at,
         },
-        10 => put_steps(room, at, book, edition, row, o),
+        Refusal::BrokenSteps(_) => put_steps(room, at, book, edition, row, o),
         _ => at,
     }
 }
 
-// 6, 7, 8 and 10: puts a row that is refused, where it is there: 7 its values beside their ranges, else its offer behind what it is
-// held against.
+// Puts what is wrong with a row: 7 its values beside their ranges, else its offer behind what it is held against.
+fn put_wrong(
+    room: &mut [u8],
+    at: usize,
+    book: &[u8],
+    edition: u32,
+    refusal: Refusal,
+    row: usize,
+    o: Offer,
+    first: usize,
+) -> usize
+    ensures { Shows room.old at (wrong_parts book.now edition refusal row o first) room.new result }
+{
+    match refusal {
+        Refusal::OfferOutOfRange(_) => put_values(room, at, edition, o),
+        _ => {
+            let against = put_against(room, at, book, edition, refusal, row, o, first);
+            put_offer(room, against, edition, row, o)
+        }
+    }
+}
+
+// 6, 7, 8 and 10: puts a row that is refused, where it is there, and what is wrong with it.
 fn put_row_refused(
     room: &mut [u8],
     at: usize,
     book: &[u8],
     edition: u32,
-    number: u32,
+    refusal: Refusal,
     row: usize,
 ) -> usize
-    ensures { Shows room.old at (refused_row book.now edition number row (row_in book.now row)) room.new result }
+    ensures { Shows room.old at (refused_row book.now edition refusal row (row_in book.now row)) room.new result }
 {
-    let RowOffer::Offered(o) = offer_of(book, row) else {
+    let Some(o) = offer_of(book, row) else {
         return at;
     };
     let first = earlier_row(book, row);
-    let head = put_refused_row(room, at, number, row, o.resource, first);
-    if number == 7 {
-        return put_values(room, head, edition, o);
-    }
-    let against = put_against(room, head, book, edition, number, row, o, first);
-    put_offer(room, against, edition, row, o)
+    let behind = put_refused_row(room, at, refusal.number(), row, o.resource, first);
+    put_wrong(room, behind, book, edition, refusal, row, o, first)
 }
 
-// Puts a refusal of what a book says, by its number.
-fn put_fault(
-    room: &mut [u8],
-    at: usize,
-    book: &[u8],
-    edition: u32,
-    p: Parameters,
-    number: u32,
-    place: u32,
-) -> usize
-    ensures { Shows room.old at (fault_parts book.now edition p number place) room.new result }
+// Puts a refusal of what a book says: 1 to 5 at a parameter, of which a book that can be read has 4 and 5 alone, the others at a row.
+fn put_fault(room: &mut [u8], at: usize, book: &[u8], head: Head, refusal: Refusal) -> usize
+    ensures { Shows room.old at (fault_parts book.now head refusal) room.new result }
 {
-    if number <= 5 {
-        return put_parameter(room, at, number, place, p);
+    match refusal {
+        Refusal::WrongLength
+        | Refusal::WrongCheck(_)
+        | Refusal::WrongLayout(_)
+        | Refusal::MissingParameter(_)
+        | Refusal::ParameterOutOfRange(_) => {
+            put_parameter(room, at, refusal.number(), refusal.place(), head.parameters)
+        }
+        _ => put_row_refused(
+            room,
+            at,
+            book,
+            head.edition,
+            refusal,
+            refusal.place() as usize,
+        ),
     }
-    put_row_refused(room, at, book, edition, number, place as usize)
 }
 
 // Puts why a book that can be read is refused, and all that it lacks.
-pub fn put_refused(
-    room: &mut [u8],
-    at: usize,
-    book: &[u8],
-    edition: u32,
-    p: Parameters,
-    number: u32,
-    place: u32,
-) -> usize
-    ensures { Shows room.old at (refused_parts book.now edition p number place) room.new result }
+pub fn put_refused(room: &mut [u8], at: usize, book: &[u8], head: Head, refusal: Refusal) -> usize
+    ensures { Shows room.old at (refused_parts book.now head refusal) room.new result }
 {
-    let fault = put_fault(room, at, book, edition, p, number, place);
-    put_missing(room, fault, book, edition, p)
+    let fault = put_fault(room, at, book, head, refusal);
+    put_missing(room, fault, book, head.edition, head.parameters)
 }

@@ -5,7 +5,7 @@
 -- Assumes nothing.
 use mathlib.Core.Path.{◌≡◌, sym, subst}
 use mathlib.Core.Bool.{true, false}
-use Prim.Native.Nat.{ℕ, ◌+◌, ◌≤◌}
+use Prim.Native.Nat.{◌+◌, ◌≤◌}
 use Rattle.laws.proofs.Cases.{by-test, cond-true, cond-false}
 use Rattle.auction.specs.Offers.{Falling}
 use Rattle.values.specs.Values.{held}
@@ -16,7 +16,6 @@ use Rattle.limits.proofs.Passing.{margin-early, margin-until, margin-late}
 use Rattle.curve.specs.Points.{curve_of}
 use Rattle.curve.specs.inner.Points.{InRange}
 use Rattle.curve.specs.Shape.{Shaped, weights2022, weights2026}
-use Rattle.curve.specs.inner.Shape.{Usable}
 use Rattle.curve.specs.Price.{demand_of}
 use Rattle.curve.proofs.Shapes.{curve-shaped, y2022-usable, y2026-usable}
 use Rattle.curve.proofs.Prices.{curve-falls}

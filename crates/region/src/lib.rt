@@ -16,15 +16,11 @@ use values::number_held;
 fn terms_of(p: Parameters) -> Terms
     ensures { result ≡ terms_of p }
 {
-    let cost = p.cost;
-    let offset = p.offset;
-    let outage = p.outage;
-    let requirement = p.requirement;
     Terms {
-        cost: DollarsPerMwYear(number_held(cost)),
-        offset: DollarsPerMwYear(number_held(offset)),
-        outage: number_held(outage),
-        requirement: number_held(requirement),
+        cost: DollarsPerMwYear(number_held(p.cost)),
+        offset: DollarsPerMwYear(number_held(p.offset)),
+        outage: number_held(p.outage),
+        requirement: number_held(p.requirement),
     }
 }
 
@@ -35,8 +31,7 @@ pub fn region_curve(p: Parameters) -> Curve
 {
     let terms = terms_of(p);
     if by_margin(p.year) {
-        let margin = p.margin;
-        points(Weights::Y2022, WHOLE + number_held(margin), terms)
+        points(Weights::Y2022, WHOLE + number_held(p.margin), terms)
     } else {
         points(Weights::Y2026, WHOLE, terms)
     }

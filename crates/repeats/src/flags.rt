@@ -8,7 +8,7 @@ ghost use Rattle.repeats.specs.inner.Flags.{flag_of_sum, flag_of_product};
 ghost use Rattle.repeats.specs.Repeats.{no_repeat};
 
 // Whether a number stands in none of the first n rows. The loop has no branch, so that it runs in lanes.
-fn absent(resources: &[u32], n: usize, number: u32) -> bool
+pub(crate) fn absent(resources: &[u32], n: usize, number: u32) -> bool
     requires { n ≤ length resources.now }
     ensures { result ≡ every (λ row. not (eqb (get_or resources.now row 0) number)) n }
 {
@@ -30,8 +30,8 @@ fn flag_of_sum(number: u32) -> usize
 fn flag_of_product(number: u32) -> usize
     ensures { (result ≡ flag_of_product number) × (result < 8192) }
 {
-    let low = (number % 65536 + 40503) as u64;
-    let high = (number / 65536 + 12345) as u64;
+    let low = u64::from(number % 65536 + 40503);
+    let high = u64::from(number / 65536 + 12345);
     (low * high / 128 % 8192) as usize
 }
 
@@ -40,10 +40,7 @@ fn as_before(resources: &[u32], row: usize) -> bool
     requires { row < length resources.now }
     ensures { result ≡ (ltb 0 row && eqb (get_or resources.now row 0) (get_or resources.now (row - 1) 0)) }
 {
-    if row == 0 {
-        return false;
-    }
-    resources[row] == resources[row - 1]
+    0 < row && resources[row] == resources[row - 1]
 }
 
 // Fewer rows than this are looked through sooner than a table of flags is cleared.

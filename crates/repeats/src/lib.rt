@@ -14,16 +14,15 @@ pub fn first_repeat(resources: &[u32], steps: &[u32], n: usize) -> usize
     requires { (n ≤ length resources.now) × (n ≤ length steps.now) }
     ensures { (result ≡ first_repeat (λ row. get_or resources.now row 0) (λ row. get_or steps.now row 0) n) × (result ≤ n) }
 {
-    let mut row = unrepeated_rows(resources, steps, n);
-    'rows: while row < n {
-        let mut earlier = 0;
-        while earlier < row {
+    // nested loops over earlier and later rows, left by a label: the form that the outline names
+    let mut found = n;
+    'rows: for row in unrepeated_rows(resources, steps, n)..n {
+        for earlier in 0..row {
             if (steps[row] == 1) & (resources[earlier] == resources[row]) {
+                found = row;
                 break 'rows;
             }
-            earlier += 1;
         }
-        row += 1;
     }
-    row
+    found
 }

@@ -7,9 +7,8 @@ use mathlib.Core.Path.{◌≡◌, sym, ap, ap₂, subst, ◌∙◌}
 use mathlib.Core.List.{List, ◌++◌}
 use Prim.Native.Nat.{ℕ, ◌-◌, ◌≤◌, ◌<◌}
 use lib.ListN.{length, get_or}
+use Rattle.std.specs.Prelude.{Ok, Err}
 use Rattle.auction.specs.Settlement.{mills}
-use Rattle.values.specs.declared.Verdict.{Verdict}
-use Rattle.values.specs.declared.Verdict.TheVariants.{Passed}
 use Rattle.values.specs.Contents.{offer_at}
 use Rattle.values.specs.declared.place.Offer.{Offer}
 use Rattle.layout.specs.Read.{contents_of}
@@ -17,10 +16,8 @@ use Rattle.layout.proofs.Contained.{contents-count, contents-offer}
 use Rattle.book.specs.Faults.{first_fault}
 use Rattle.sale.specs.Auction.{total, price, row_cleared, row_committed, row_make_whole, daily_total, year_total}
 use Rattle.sale.specs.Payment.{clearing_of}
-use Rattle.call.specs.Answer.{Outcome}
+use Rattle.call.specs.Answer.{Outcome, Answer}
 use Rattle.sale.specs.declared.Clearing.{Clearing}
-use Rattle.call.specs.declared.Answer.{Answer}
-use Rattle.call.specs.declared.Answer.TheVariants.{Cleared as Answer-as-Cleared, Refused as Answer-as-Refused}
 use Rattle.call.proofs.Calls.{fault-first}
 use Rattle.sale.proofs.Payments.{quoted-as_price}
 use Rattle.call.proofs.Outcomes.{cleared-accepted, cleared-clearing, cleared-row, committed-row, refused-first}
@@ -28,6 +25,8 @@ use Rattle.report.specs.Lines.{cleared_word, daily_word, year_word, line_text, p
 use Rattle.report.specs.Report.{clearing_text, report_by, report_text}
 use Rattle.report.specs.inner.Report.{sold_text}
 use Rattle.report.proofs.Fitting.{rows_text-ext}
+use Rattle.values.specs.Refusals.{Verdict, no_fault}
+use Rattle.values.specs.declared.refusal.Refusal.{Refusal}
 
 module _ (b : List ℕ) where
   -- a row's line, with the resource that its own bytes hold
@@ -56,22 +55,22 @@ module _ (b cleared committed : List ℕ) (answer : Answer) (cleared' committed'
   as-answered a e = subst (λ (x : Answer). Outcome b cleared committed x cleared' committed') e out
 
   -- a clearing: the book was accepted
-  pub answered-accepted : (c : Clearing) → answer ≡ Answer-as-Cleared c → first_fault b ≡ Passed
-  answered-accepted c e = cleared-accepted b cleared committed c cleared' committed' (as-answered (Answer-as-Cleared c) e)
+  pub answered-accepted : (c : Clearing) → answer ≡ Ok c → first_fault b ≡ no_fault
+  answered-accepted c e = cleared-accepted b cleared committed c cleared' committed' (as-answered (Ok c) e)
 
-  pub sold-reported : (c : Clearing) → answer ≡ Answer-as-Cleared c → sold_text b c cleared' committed' ≡ report_text b
+  pub sold-reported : (c : Clearing) → answer ≡ Ok c → sold_text b c cleared' committed' ≡ report_text b
   unfolding report_text
   sold-reported c e =
-      let o = as-answered (Answer-as-Cleared c) e in
+      let o = as-answered (Ok c) e in
       ap (λ (k : Clearing). sold_text b k cleared' committed') (cleared-clearing b cleared committed c cleared' committed' o)
       ∙ sold-clearing b cleared' committed' (cleared-row b cleared committed c cleared' committed' o)
       (committed-row b cleared committed c cleared' committed' o)
       ∙ sym (ap (λ (v : Verdict). report_by v (clearing_text (contents_of b))) (answered-accepted c e))
 
-  pub refusal-reported : (number place : ℕ) → 600 ≤ length cleared → 600 ≤ length committed
-      → answer ≡ Answer-as-Refused number place → refusal_text number place ≡ report_text b
+  pub refusal-reported : (refusal : Refusal) → 600 ≤ length cleared → 600 ≤ length committed
+      → answer ≡ Err refusal → refusal_text refusal ≡ report_text b
   unfolding report_text
-  refusal-reported number place h k e =
-      let first = refused-first b cleared committed number place cleared' committed' (as-answered (Answer-as-Refused number place) e) in
+  refusal-reported refusal h k e =
+      let first = refused-first b cleared committed refusal cleared' committed' (as-answered (Err refusal) e) in
       sym (ap (λ (v : Verdict). report_by v (clearing_text (contents_of b)))
       (sym (fault-first b (length cleared) (length committed) h k) ∙ first))

@@ -6,13 +6,12 @@ use Prim.Native.Nat.{ℕ, zero, suc, ◌+◌, ◌≤◌, ◌<◌, ◌^◌}
 use native.Mathlib.Numerals.{add-one}
 use native.Mathlib.Omega.{arith}
 use lib.ListN.{length, length-append}
+use Rattle.std.specs.Prelude.{Some, None}
 use Rattle.text.specs.Put.{Written}
 use Rattle.text.specs.Number.{number_text}
 use Rattle.text.proofs.Puts.{written-append, written_none, fits-buffer, fits-place, length-put-fits}
 use Rattle.text.proofs.Numbers.{length-number}
 use Rattle.units.specs.declared.CentsPerMwDay.{CentsPerMwDay}
-use Rattle.pricing.specs.declared.ClearingPrice.{ClearingPrice}
-use Rattle.pricing.specs.declared.ClearingPrice.TheVariants.{Price, NoPrice}
 use Rattle.values.specs.Place.{offer_of}
 use Rattle.values.specs.declared.place.Offer.{Offer}
 use Rattle.sections.specs.Blocks.{row_bytes}
@@ -20,6 +19,7 @@ use Rattle.layout.specs.Form.{edition_of}
 use Rattle.layout.specs.Read.{row_offer}
 use Rattle.settle.specs.inner.Read.{quoted}
 use Rattle.report.specs.Lines.{price_word, no_price_line, ended_text, line_text, price_text, row_text, rows_text, Fitted}
+use Rattle.pricing.specs.Price.{ClearingPrice}
 
 module _ {out : List ℕ} {at : ℕ} {bytes after : List ℕ} {end : ℕ} where
   pub fitted : at + length bytes ≤ length out → Written out at bytes after end → Fitted out at bytes after end
@@ -70,11 +70,11 @@ fitted-ended {out} {at} {number} {byte} h room w v =
 
 -- the line of a price that is there, and of none
 module _ {out : List ℕ} {at : ℕ} {after : List ℕ} {end : ℕ} {quote : ClearingPrice} where
-  pub price-told : {cents : CentsPerMwDay} → quote ≡ Price cents → Fitted out at (line_text price_word cents.0) after end
+  pub price-told : {cents : CentsPerMwDay} → quote ≡ Some cents → Fitted out at (line_text price_word cents.0) after end
       → Fitted out at (price_text (quoted quote)) after end
   price-told e f = rw e f
 
-  pub no-price-told : quote ≡ NoPrice → Fitted out at no_price_line after end → Fitted out at (price_text (quoted quote)) after end
+  pub no-price-told : quote ≡ None → Fitted out at no_price_line after end → Fitted out at (price_text (quoted quote)) after end
   no-price-told e f = rw e f
 
 -- the line of a row of a book, by what was read of the row and paid for it

@@ -5,6 +5,8 @@ use Rattle.std.specs.Prelude.{ℕ, zero, suc, ◌+◌, ◌≤◌, List, [], ◌�
 use Rattle.std.proofs.Math.Option.{Option, none, some}
 use Rattle.text.specs.Put.{Written}
 use Rattle.text.specs.Number.{number_text}
+use Rattle.values.specs.Refusals.{number_of, place_of}
+use Rattle.values.specs.declared.refusal.Refusal.{Refusal}
 
 -- `cleared `, `price `, `daily `, `year `, `refused `, each with its space
 abbrev pub cleared_word : List ℕ
@@ -43,8 +45,8 @@ abbrev pub price_text : Option ℕ → List ℕ
 price_text (some cents) = line_text price_word cents
 price_text none = no_price_line
 
-unfoldable pub refusal_text : ℕ → ℕ → List ℕ
-refusal_text number place = word_text refused_word number 32 ++ ended_text place 10
+unfoldable pub refusal_text : Refusal → List ℕ
+refusal_text refusal = word_text refused_word (number_of refusal) 32 ++ ended_text (place_of refusal) 10
 
 -- a row: its resource, what it clears, what it commits, its make-whole
 unfoldable pub row_text : ℕ → ℕ → ℕ → ℕ → List ℕ

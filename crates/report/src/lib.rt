@@ -5,7 +5,6 @@ mod lines;
 
 ghost use Rattle.std.specs.Prelude.{◌≡◌, ◌+◌, ◌*◌, ◌/◌, ◌-◌, ◌≤◌, length};
 ghost use Rattle.io.specs.Counts.{IsPrefixLen};
-ghost use Rattle.values.specs.declared.Verdict.TheVariants.{Passed};
 ghost use Rattle.auction.specs.Settlement.{mills};
 ghost use Rattle.settle.specs.inner.Read.{quoted};
 ghost use Rattle.layout.specs.Form.{edition_of};
@@ -15,13 +14,14 @@ ghost use Rattle.book.specs.Faults.{first_fault};
 ghost use Rattle.report.specs.Lines.{row_text, rows_text, Fitted};
 ghost use Rattle.report.specs.Report.{report_text};
 ghost use Rattle.report.specs.inner.Report.{sold_line, sold_text};
+ghost use Rattle.values.specs.Refusals.{no_fault};
 
 use crate::lines::{put_price, put_refusal, put_row, put_word};
-use call::{Answer, clear};
+use call::clear;
 use layout::reader::{edition, offer_count, row_bytes};
-use pricing::ClearingPrice;
 use sale::Clearing;
 use settle::make_whole;
+use units::CentsPerMwDay;
 use values::place::offer_in;
 
 // Puts the line of a row of a book at a price.
@@ -30,7 +30,7 @@ fn put_offer(
     at: usize,
     book: &[u8],
     row: usize,
-    price: ClearingPrice,
+    price: Option<CentsPerMwDay>,
     cleared: u32,
     committed: u32,
 ) -> usize
@@ -55,7 +55,7 @@ fn put_rows(
     at: usize,
     book: &[u8],
     n: usize,
-    price: ClearingPrice,
+    price: Option<CentsPerMwDay>,
     cleared: &[u32],
     committed: &[u32],
 ) -> usize
@@ -79,16 +79,15 @@ fn put_clearing(
     cleared: &[u32],
     committed: &[u32],
 ) -> usize
-    requires book_value { first_fault book.now ≡ Passed }
+    requires book_value { first_fault book.now ≡ no_fault }
     requires in_bounds { (600 ≤ length cleared.now) × (600 ≤ length committed.now) }
     requires at_in_bounds { at + 32768 ≤ length out.old }
     ensures { Fitted out.old at (sold_text book.now c cleared.now committed.now) out.new result }
 {
     let n = offer_count(book) as usize;
-    let price = c.price;
-    let first = put_word(out, at, b"cleared ", c.total as u64, b'\n');
-    let second = put_price(out, first, price);
-    let third = put_rows(out, second, book, n, price, cleared, committed);
+    let first = put_word(out, at, b"cleared ", u64::from(c.total), b'\n');
+    let second = put_price(out, first, c.price);
+    let third = put_rows(out, second, book, n, c.price, cleared, committed);
     let fourth = put_word(out, third, b"daily ", c.daily, b'\n');
     put_word(out, fourth, b"year ", c.year, b'\n')
 }
@@ -101,9 +100,8 @@ pub fn put_report(out: &mut [u8], at: usize, book: &[u8]) -> usize
 {
     let mut cleared = [0u32; 600];
     let mut committed = [0u32; 600];
-    let answer = clear(book, &mut cleared, &mut committed);
-    match answer {
-        Answer::Cleared(c) => put_clearing(out, at, book, c, &cleared, &committed),
-        Answer::Refused(number, place) => put_refusal(out, at, number, place),
+    match clear(book, &mut cleared, &mut committed) {
+        Ok(c) => put_clearing(out, at, book, c, &cleared, &committed),
+        Err(refusal) => put_refusal(out, at, refusal),
     }
 }

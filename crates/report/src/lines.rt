@@ -3,8 +3,9 @@ ghost use Rattle.std.specs.Prelude.{◌+◌, ◌≤◌, length};
 ghost use Rattle.settle.specs.inner.Read.{quoted};
 ghost use Rattle.report.specs.Lines.{ended_text, word_text, price_text, refusal_text, row_text, Fitted};
 
-use pricing::ClearingPrice;
 use text::{put_byte, put_bytes, put_number};
+use units::CentsPerMwDay;
+use values::Refusal;
 
 // Puts a number and one byte behind it.
 fn put_ended(out: &mut [u8], at: usize, number: u64, end: u8) -> usize
@@ -20,7 +21,7 @@ fn put_short(out: &mut [u8], at: usize, number: u32, end: u8) -> usize
     requires { at + 21 ≤ length out.old }
     ensures { Fitted out.old at (ended_text number end) out.new result × (result ≤ at + 11) }
 {
-    put_ended(out, at, number as u64, end)
+    put_ended(out, at, u64::from(number), end)
 }
 
 // Puts a word, a number and one byte behind it.
@@ -33,23 +34,23 @@ pub(crate) fn put_word(out: &mut [u8], at: usize, word: &[u8], number: u64, end:
 }
 
 // Puts the line of the price, and of no price.
-pub(crate) fn put_price(out: &mut [u8], at: usize, price: ClearingPrice) -> usize
+pub(crate) fn put_price(out: &mut [u8], at: usize, price: Option<CentsPerMwDay>) -> usize
     requires { at + 27 ≤ length out.old }
     ensures { Fitted out.old at (price_text (quoted price)) out.new result × (result ≤ at + 27) }
 {
     match price {
-        ClearingPrice::Price(cents) => put_word(out, at, b"price ", cents.0 as u64, b'\n'),
-        ClearingPrice::NoPrice => put_bytes(out, at, b"price -\n"),
+        Some(cents) => put_word(out, at, b"price ", u64::from(cents.0), b'\n'),
+        None => put_bytes(out, at, b"price -\n"),
     }
 }
 
 // Puts the line of a refusal.
-pub(crate) fn put_refusal(out: &mut [u8], at: usize, number: u32, place: u32) -> usize
+pub(crate) fn put_refusal(out: &mut [u8], at: usize, refusal: Refusal) -> usize
     requires { at + 50 ≤ length out.old }
-    ensures { Fitted out.old at (refusal_text number place) out.new result }
+    ensures { Fitted out.old at (refusal_text refusal) out.new result }
 {
-    let behind = put_word(out, at, b"refused ", number as u64, b' ');
-    put_short(out, behind, place, b'\n')
+    let behind = put_word(out, at, b"refused ", u64::from(refusal.number()), b' ');
+    put_short(out, behind, refusal.place(), b'\n')
 }
 
 // Puts the line of a row: its resource, what it clears, what it commits and its make-whole.

@@ -1,2 +1,1 @@
 pub mod RowsDecided
-mod RowNumbers

@@ -7,7 +7,6 @@ use Prim.Native.Nat.{ℕ}
 use contract.Lifetimes.{Lfts}
 use denote.Ref.{MutBor}
 use Rattle.values.specs.declared.place.Offer.{Offer}
-use Rattle.pricing.specs.declared.ClearingPrice.{ClearingPrice}
 use Rattle.reasons.specs.declared.share.Share.{Share}
 use Rattle.ladder.specs.declared.rung.Rung.{Rung}
 use Rattle.turns.specs.declared.order.Contender.{Contender}
@@ -27,6 +26,7 @@ use Rattle.rowlines.proofs.division.put_place.Reads as put-place
 use Rattle.rowlines.proofs.division.put_left_behind.Reads as put-left-behind
 use Rattle.rowlines.proofs.rungs.put_ladder.Reads as put-ladder
 use Rattle.rowlines.proofs.rungs.put_rung.Reads as put-rung
+use Rattle.pricing.specs.Price.{ClearingPrice}
 
 module _ (κs : Lfts 1) (room after other : MutBor (List ℕ)) (at r s : ℕ) where
   -- the head of the table of rows, by the contract of `put_table_head`

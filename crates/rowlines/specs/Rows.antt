@@ -3,10 +3,10 @@
 use Rattle.std.specs.Prelude.{ℕ, ◌-◌, List, [], ◌∷◌, eqb, ltb}
 use Rattle.values.specs.Values.{held}
 use Rattle.values.specs.declared.place.Offer.{Offer}
-use Rattle.pricing.specs.declared.ClearingPrice.{ClearingPrice}
 use Rattle.reasons.specs.declared.share.Share.{Share}
 use Rattle.wording.specs.Words.{as_one, first_true, given, valued, cents_of}
 use Rattle.rowlines.specs.RowWords.{reason}
+use Rattle.pricing.specs.Price.{ClearingPrice}
 
 unfoldable pub rows_head_numbers : List ℕ
 rows_head_numbers = []

@@ -3,11 +3,11 @@ ghost use Rattle.forms.specs.Shown.{Shown};
 ghost use Rattle.rowlines.specs.Division.{division_numbers, left_before_numbers, place_numbers, left_behind_numbers};
 
 use forms::put_form;
-use numbers::lesser_size;
 use turns::order::Contender;
 use wording::word::first_true;
 
 // Puts how the level at a price is divided, and what the columns of the contest are where any tenth is spare.
+#[tactic(auto, using(wording::proofs::Showing::showing), unfolding(crate::specs::Division::division_numbers))]
 pub fn put_division(
     room: &mut [u8],
     at: usize,
@@ -19,9 +19,9 @@ pub fn put_division(
 ) -> usize
     ensures { Shown room.old at (division_numbers edition price amount sum spares) room.new result }
 {
-    let amount = amount as u64;
-    let sum = sum as u64;
-    let some = (0 < spares) as u64;
+    let amount = u64::from(amount);
+    let sum = u64::from(sum);
+    let some = u64::from(0 < spares);
     put_form(
         room,
         at,
@@ -33,21 +33,22 @@ The level at $ is divided: it receives ~ MW of ~ MW
 [|   place    remainder                stamp   resource][|  step][|
 ]",
         &[
-            price as u64,
+            u64::from(price),
             amount,
             sum,
             amount,
             sum,
             first_true(spares == 0, spares == 1),
-            spares as u64,
+            u64::from(spares),
             some,
-            ((0 < spares) & (edition == 2)) as u64,
+            u64::from(0 < spares && edition == 2),
             some,
         ],
     )
 }
 
 // Puts how many places are left out before those shown, of which the last is given.
+#[tactic(auto, using(wording::proofs::Showing::showing), unfolding(crate::specs::Division::left_before_numbers))]
 pub fn put_left_before(room: &mut [u8], at: usize, last: u32) -> usize
     ensures { Shown room.old at (left_before_numbers last) room.new result }
 {
@@ -57,11 +58,12 @@ pub fn put_left_before(room: &mut [u8], at: usize, last: u32) -> usize
         b"[|  place 1 is left out: it gets one
 |  places 1 to @ are left out: each gets one
 ]",
-        &[first_true(last == 0, last == 1), last as u64],
+        &[first_true(last == 0, last == 1), u64::from(last)],
     )
 }
 
 // Puts who stands at a place, counted from 0, and whether that gets a spare tenth; before the first that gets none, that they end.
+#[tactic(auto, using(wording::proofs::Showing::showing), unfolding(crate::specs::Division::place_numbers))]
 pub fn put_place(
     room: &mut [u8],
     at: usize,
@@ -80,25 +82,26 @@ pub fn put_place(
 ]_______# ___________@ ___________________# _________#[| ____#]  [gets one|gets none]
 ",
         &[
-            (k == first) as u64,
-            lesser_size(k, 18446744073709551614) as u64 + 1,
+            u64::from(k == first),
+            k.saturating_add(1) as u64,
             c.remainder,
             c.stamp,
-            c.resource as u64,
-            (edition == 2) as u64,
-            c.step as u64,
-            (first <= k) as u64,
+            u64::from(c.resource),
+            u64::from(edition == 2),
+            u64::from(c.step),
+            u64::from(first <= k),
         ],
     )
 }
 
 // Puts how many places are left out behind those shown.
+#[tactic(auto, using(wording::proofs::Showing::showing), unfolding(crate::specs::Division::left_behind_numbers))]
 pub fn put_left_behind(room: &mut [u8], at: usize, spares: u32, contenders: u32) -> usize
     ensures { Shown room.old at (left_behind_numbers spares contenders) room.new result }
 {
-    let last = spares as u64 + 5;
-    let next = spares as u64 + 6;
-    let all = contenders as u64;
+    let last = u64::from(spares) + 5;
+    let next = last + 1;
+    let all = u64::from(contenders);
     put_form(
         room,
         at,

@@ -5,14 +5,14 @@ ghost use Rattle.rowlines.specs.Rows.{rows_head_numbers, offer_numbers, part_num
 
 use crate::row_word::reason;
 use forms::put_form;
-use numbers::excess;
-use pricing::ClearingPrice;
 use reasons::share::Share;
+use units::CentsPerMwDay;
 use values::number_held;
 use values::place::Offer;
 use wording::word::{cents_of, first_true, given, valued};
 
 // Puts that the rows follow.
+#[tactic(auto, using(wording::proofs::Showing::showing), unfolding(crate::specs::Rows::rows_head_numbers))]
 pub fn put_rows_head(room: &mut [u8], at: usize) -> usize
     ensures { Shown room.old at rows_head_numbers room.new result }
 {
@@ -27,12 +27,11 @@ The rows
 }
 
 // Puts a row's offer, and in edition 2 which of its resource's steps it is.
+#[tactic(auto, using(wording::proofs::Showing::showing), unfolding(crate::specs::Rows::offer_numbers))]
 pub fn put_offer(room: &mut [u8], at: usize, edition: u32, row: usize, o: Offer) -> usize
     ensures { Shown room.old at (offer_numbers edition row o) room.new result }
 {
-    let price = o.price;
-    let block = o.block;
-    let price = valued(price);
+    let price = valued(o.price);
     put_form(
         room,
         at,
@@ -41,21 +40,22 @@ pub fn put_offer(room: &mut [u8], at: usize, edition: u32, row: usize, o: Offer)
 ",
         &[
             row as u64,
-            (edition == 2) as u64,
-            o.step as u64,
-            o.resource as u64,
-            o.quantity as u64,
+            u64::from(edition == 2),
+            u64::from(o.step),
+            u64::from(o.resource),
+            u64::from(o.quantity),
             price.word,
             price.number,
-            o.seller as u64,
-            given(block) as u64,
-            number_held(block) as u64,
+            u64::from(o.seller),
+            u64::from(given(o.block)),
+            u64::from(number_held(o.block)),
             o.stamp,
         ],
     )
 }
 
 // Puts what the row's level receives of what is offered at it, and the row's part.
+#[tactic(auto, using(wording::proofs::Showing::showing), unfolding(crate::specs::Rows::part_numbers))]
 pub fn put_part(room: &mut [u8], at: usize, quantity: u32, s: Share) -> usize
     ensures { Shown room.old at (part_numbers quantity s) room.new result }
 {
@@ -69,12 +69,12 @@ pub fn put_part(room: &mut [u8], at: usize, quantity: u32, s: Share) -> usize
     = @, remainder @]
 ",
         &[
-            s.amount as u64,
-            s.sum as u64,
+            u64::from(s.amount),
+            u64::from(s.sum),
             first_true(s.amount == 0, s.amount == s.sum),
-            quantity as u64,
-            s.amount as u64,
-            s.sum as u64,
+            u64::from(quantity),
+            u64::from(s.amount),
+            u64::from(s.sum),
             s.down,
             s.remainder,
         ],
@@ -82,10 +82,11 @@ pub fn put_part(room: &mut [u8], at: usize, quantity: u32, s: Share) -> usize
 }
 
 // Puts what a row clears and commits, and its make-whole or why there is none.
+#[tactic(auto, using(wording::proofs::Showing::showing), unfolding(crate::specs::Rows::settled_numbers))]
 pub fn put_settled(
     room: &mut [u8],
     at: usize,
-    price: ClearingPrice,
+    price: Option<CentsPerMwDay>,
     cleared: u32,
     committed: u32,
     mills: u64,
@@ -103,18 +104,19 @@ pub fn put_settled(
     = $ x ~ MW committed past what cleared]
 ",
         &[
-            cleared as u64,
-            committed as u64,
-            (cleared < committed) as u64,
+            u64::from(cleared),
+            u64::from(committed),
+            u64::from(cleared < committed),
             reason(0 < mills, cleared == 0, cleared < committed),
             mills,
             cents_of(price),
-            excess(committed, cleared) as u64,
+            u64::from(committed.saturating_sub(cleared)),
         ],
     )
 }
 
 // Puts what the steps of a resource clear together, of what they offer.
+#[tactic(auto, using(wording::proofs::Showing::showing), unfolding(crate::specs::Rows::together_numbers))]
 pub fn put_together(
     room: &mut [u8],
     at: usize,
@@ -130,6 +132,6 @@ pub fn put_together(
         at,
         b"resource #, steps 1 to #: cleared ~ MW of ~ MW
 ",
-        &[resource as u64, steps as u64, cleared, offered],
+        &[u64::from(resource), u64::from(steps), cleared, offered],
     )
 }

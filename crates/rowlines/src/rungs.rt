@@ -7,6 +7,7 @@ use ladder::rung::Rung;
 use wording::word::either;
 
 // Puts what the columns are, and what is offered below the lowest rung.
+#[tactic(auto, using(wording::proofs::Showing::showing), unfolding(crate::specs::Levels::ladder_numbers))]
 pub fn put_ladder(room: &mut [u8], at: usize, lower: u32) -> usize
     ensures { Shown room.old at (ladder_numbers lower) room.new result }
 {
@@ -18,11 +19,12 @@ Price levels around the one at which X stops
         price            offered           receives
 [|        lower  _____________~ MW                     all
 ]",
-        &[(0 < lower) as u64, lower as u64],
+        &[u64::from(0 < lower), u64::from(lower)],
     )
 }
 
 // Puts a rung, counted from 0; behind the eleventh also what is offered at higher prices.
+#[tactic(auto, using(wording::proofs::Showing::showing), unfolding(crate::specs::Levels::rung_numbers))]
 pub fn put_rung(room: &mut [u8], at: usize, k: usize, rung: Rung) -> usize
     ensures { Shown room.old at (rung_numbers k rung) room.new result }
 {
@@ -33,12 +35,16 @@ pub fn put_rung(room: &mut [u8], at: usize, k: usize, rung: Rung) -> usize
 [|       higher  _____________~ MW                     nothing
 ]",
         &[
-            rung.price as u64,
-            rung.offered as u64,
-            rung.receives as u64,
-            either(rung.receives == 0, 2, (rung.receives < rung.offered) as u64),
-            ((k == 10) & (0 < rung.higher)) as u64,
-            rung.higher as u64,
+            u64::from(rung.price),
+            u64::from(rung.offered),
+            u64::from(rung.receives),
+            either(
+                rung.receives == 0,
+                2,
+                u64::from(rung.receives < rung.offered),
+            ),
+            u64::from(k == 10 && 0 < rung.higher),
+            u64::from(rung.higher),
         ],
     )
 }

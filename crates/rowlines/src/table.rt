@@ -8,6 +8,7 @@ use values::number_held;
 use values::place::Offer;
 
 // Puts what the columns are, and what the words of the last one mean.
+#[tactic(auto, using(wording::proofs::Showing::showing), unfolding(crate::specs::Table::table_head_numbers))]
 pub fn put_table_head(room: &mut [u8], at: usize) -> usize
     ensures { Shown room.old at table_head_numbers room.new result }
 {
@@ -25,6 +26,7 @@ row resource seller     price  offered  cleared  commits      make-whole
 
 // Puts a row in one line: its offer, what it clears, commits and is paid, and in a word why it clears that. The level at which
 // the total stops receives `amount` of `sum`: what a row clears past its exact part of that is a spare tenth.
+#[tactic(auto, using(wording::proofs::Showing::showing), unfolding(crate::specs::Table::line_numbers))]
 pub fn put_line(
     room: &mut [u8],
     at: usize,
@@ -38,14 +40,12 @@ pub fn put_line(
 ) -> usize
     ensures { Shown room.old at (line_numbers row o cleared committed mills amount sum) room.new result }
 {
-    let price = o.price;
-    let resource = o.resource as u64;
-    let step = o.step as u64;
-    let seller = o.seller as u64;
-    let offered = o.quantity as u64;
-    let sold = cleared as u64;
-    let exact = offered * amount as u64;
-    let taken = sold * sum as u64;
+    // Tried with `||`: the proof of the numbers below does not close where the two ways of a test join.
+    let wide = (100000000 <= o.resource) | (1000000 <= o.seller);
+    let offered = u64::from(o.quantity);
+    let sold = u64::from(cleared);
+    let exact = offered * u64::from(amount);
+    let taken = sold * u64::from(sum);
     put_form(
         room,
         at,
@@ -54,15 +54,15 @@ pub fn put_line(
 ",
         &[
             row as u64,
-            (1 < step) as u64,
-            resource,
-            step,
-            seller,
-            ((100000000 <= resource) | (1000000 <= seller)) as u64,
-            number_held(price) as u64,
+            u64::from(1 < o.step),
+            u64::from(o.resource),
+            u64::from(o.step),
+            u64::from(o.seller),
+            u64::from(wide),
+            u64::from(number_held(o.price)),
             offered,
             sold,
-            committed as u64,
+            u64::from(committed),
             mills,
             line_word(
                 cleared == 0,

@@ -1,7 +1,8 @@
 // A row's turn in the contest for the spare tenths of its level, and the row at the other side of the cut.
+ghost use Rattle.std.specs.Prelude.{◌≡◌};
 ghost use Rattle.forms.specs.Shown.{Shown};
 ghost use Rattle.rowlines.specs.Turn.{turn_numbers};
-ghost use Rattle.rowlines.specs.inner.Rival.{Faces, Takes};
+ghost use Rattle.rowlines.specs.inner.Rival.{Faces};
 
 use forms::put_form;
 use turns::turn::{Rival, Turn};
@@ -18,65 +19,54 @@ struct Facing {
 
 // The row at the other side of the cut, for one that gets a spare tenth or for one that gets none; with all ones for the
 // numbers of a row that is not there.
-fn across(edition: u32, gets: bool, rival: Rival) -> Facing
+fn across(edition: u32, gets: bool, rival: Option<Rival>) -> Facing
     ensures { Faces edition gets rival result }
 {
     match rival {
-        Rival::Against(c, key) => Facing {
+        Some(Rival { contender, decided }) => Facing {
             named: either(edition == 2, 2, 1),
-            resource: c.resource as u64,
-            step: c.step as u64,
-            decided: either(gets, key as u64 + 1, key as u64 + 5),
+            resource: u64::from(contender.resource),
+            step: u64::from(contender.step),
+            decided: u64::from(decided.number()) + either(gets, 1, 5),
         },
-        Rival::NoRival => Facing {
+        None => Facing {
             named: 0,
-            resource: 18446744073709551615,
-            step: 18446744073709551615,
+            resource: u64::MAX,
+            step: u64::MAX,
             decided: 0,
         },
     }
 }
 
-// What is said of a turn: the words for the spare tenths, the row's place and among how many, the tenths that are spare, whether it
-// gets one, and the row at the other side of the cut.
-#[derive(Clone, Copy)]
-struct Taken {
-    shared: u64,
-    place: u64,
-    contenders: u64,
-    spares: u64,
-    gets: u64,
-    named: u64,
-    resource: u64,
-    step: u64,
-    decided: u64,
-}
-
-// A row's turn, as the numbers that are shown.
-fn turn_numbers(edition: u32, t: Turn) -> Taken
-    ensures { Takes edition t result }
+// A row's turn, as the numbers that are shown: the words for the spare tenths, the row's place and among how many, the tenths that
+// are spare, whether it gets one, and the row at the other side of the cut.
+#[tactic(auto, unfolding(crate::specs::Turn::turn_numbers))]
+fn turn_numbers(edition: u32, t: Turn) -> [u64; 12]
+    ensures { result ≡ turn_numbers edition t }
 {
-    let rival = t.rival;
     let gets = t.place < t.spares;
-    let other = across(edition, gets, rival);
-    Taken {
-        shared: first_true(t.spares == 0, t.spares == 1),
-        place: t.place as u64 + 1,
-        contenders: t.contenders as u64,
-        spares: t.spares as u64,
-        gets: first_true(t.spares == 0, gets),
-        named: other.named,
-        resource: other.resource,
-        step: other.step,
-        decided: other.decided,
-    }
+    let other = across(edition, gets, t.rival);
+    [
+        first_true(t.spares == 0, t.spares == 1),
+        u64::from(t.place) + 1,
+        u64::from(t.contenders),
+        u64::from(t.place) + 1,
+        u64::from(t.contenders),
+        u64::from(t.spares),
+        first_true(t.spares == 0, gets),
+        other.named,
+        other.resource,
+        other.step,
+        other.resource,
+        other.decided,
+    ]
 }
 
 // Puts a row's place in the contest for the spare tenths of its level, and against whom it gets one or gets none.
+#[tactic(auto, using(wording::proofs::Showing::showing), unfolding(crate::specs::Turn::turn_numbers))]
 pub fn put_turn(room: &mut [u8], at: usize, edition: u32, t: Turn) -> usize
     ensures { Shown room.old at (turn_numbers edition t) room.new result }
 {
-    let n = turn_numbers(edition, t);
     put_form(
         room,
         at,
@@ -98,19 +88,6 @@ pub fn put_turn(room: &mut [u8], at: usize, edition: u32, t: Turn) -> usize
 |:
     only the steps differ, and the step here is higher
 ]",
-        &[
-            n.shared,
-            n.place,
-            n.contenders,
-            n.place,
-            n.contenders,
-            n.spares,
-            n.gets,
-            n.named,
-            n.resource,
-            n.step,
-            n.resource,
-            n.decided,
-        ],
+        &turn_numbers(edition, t),
     )
 }

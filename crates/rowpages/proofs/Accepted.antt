@@ -10,9 +10,8 @@ use mathlib.Core.Option.{Option}
 use Prim.Native.Nat.{ℕ, ◌-◌, ◌≤◌, ◌<◌}
 use lib.ListN.{length}
 use native.Mathlib.Omega.{arith}
+use Rattle.std.specs.Prelude.{Err, Ok}
 use Rattle.auction.specs.Settlement.{mills}
-use Rattle.values.specs.declared.Verdict.{Verdict}
-use Rattle.values.specs.declared.Verdict.TheVariants.{Passed, Refused}
 use Rattle.layout.specs.Read.{contents_of}
 use Rattle.book.specs.Faults.{first_fault}
 use Rattle.book.proofs.Accepted.{accepted-form}
@@ -21,43 +20,41 @@ use Rattle.sale.specs.Payment.{clearing_of}
 use Rattle.sale.specs.declared.Clearing.{Clearing}
 use Rattle.sale.proofs.Payments.{quoted-as_price}
 use Rattle.settle.specs.inner.Read.{quoted}
-use Rattle.call.specs.Answer.{Outcome, answer_by}
-use Rattle.call.specs.declared.Answer.{Answer}
-use Rattle.call.specs.declared.Answer.TheVariants.{Cleared as Answer-as-Cleared, Refused as Answer-as-Refused}
+use Rattle.call.specs.Answer.{Outcome, answer_by, Answer}
 use Rattle.call.proofs.Calls.{outcome-answer}
 use Rattle.call.proofs.Outcomes.{cleared-accepted, cleared-clearing, cleared-row, committed-row}
-use Rattle.workings.specs.Works.{worked_by}
+use Rattle.workings.specs.Works.{worked_by, WorksAnswer}
 use Rattle.workings.specs.declared.works.Works.{Works}
-use Rattle.workings.specs.declared.works.WorksAnswer.{WorksAnswer}
-use Rattle.workings.specs.declared.works.WorksAnswer.TheVariants.{Worked}
 use Rattle.forms.specs.Parts.{parts_of}
 use Rattle.forms.proofs.Putting.{parts_of-ext}
 use Rattle.readout.specs.Facts.{row_in, rows_in}
 use Rattle.rowpages.specs.Table.{line_parts, table_parts}
 use Rattle.rowpages.specs.inner.Table.{line_by}
+use Rattle.values.specs.Refusals.{Verdict, no_fault}
+use Rattle.values.specs.declared.refusal.Refusal.{Refusal}
 
-worked-passed : (v : Verdict) (w x : Works) → Worked x ≡ worked_by v w → v ≡ Passed
-worked-passed Passed w x e = refl
-worked-passed (Refused number place) w x e = cc
+worked-passed : (v : Verdict) (w x : Works) → Ok x ≡ worked_by v w → v ≡ no_fault
+worked-passed (Ok u) w x e = refl
+worked-passed (Err refusal) w x e = cc
 
-pub worked-accepted : (b : List ℕ) (w : Works) (a : WorksAnswer) (x : Works) → a ≡ worked_by (first_fault b) w → a ≡ Worked x
-    → first_fault b ≡ Passed
+pub worked-accepted : (b : List ℕ) (w : Works) (a : WorksAnswer) (x : Works) → a ≡ worked_by (first_fault b) w → a ≡ Ok x
+    → first_fault b ≡ no_fault
 worked-accepted b w a x e f = worked-passed (first_fault b) w x (sym f ∙ e)
 
-answer-passed : (v : Verdict) (k : Clearing) (number place : ℕ) → v ≡ Passed → Answer-as-Refused number place ≡ answer_by v k → ⊥
-answer-passed Passed k number place e f = true≢false cc
-answer-passed (Refused m p) k number place e f = true≢false cc
+answer-passed : (v : Verdict) (k : Clearing) (refusal : Refusal) → v ≡ no_fault → Err refusal ≡ answer_by v k → ⊥
+answer-passed (Ok u) k refusal e f = true≢false cc
+answer-passed (Err m) k refusal e f = true≢false cc
 
 module _ (b cleared committed : List ℕ) (answer : Answer) (cleared' committed' : List ℕ)
     (out : Outcome b cleared committed answer cleared' committed') where
-  pub refused-not : (number place : ℕ) → 600 ≤ length cleared → 600 ≤ length committed → first_fault b ≡ Passed
-      → answer ≡ Answer-as-Refused number place → ⊥
-  refused-not number place h k accepted e =
-      answer-passed (first_fault b) (clearing_of (contents_of b)) number place accepted
+  pub refused-not : (refusal : Refusal) → 600 ≤ length cleared → 600 ≤ length committed → first_fault b ≡ no_fault
+      → answer ≡ Err refusal → ⊥
+  refused-not refusal h k accepted e =
+      answer-passed (first_fault b) (clearing_of (contents_of b)) refusal accepted
       (sym e ∙ outcome-answer b cleared committed answer cleared' committed' h k out)
 
-  module _ (k : Clearing) (e : answer ≡ Answer-as-Cleared k) (amount sum : ℕ) where
-    own : Outcome b cleared committed (Answer-as-Cleared k) cleared' committed'
+  module _ (k : Clearing) (e : answer ≡ Ok k) (amount sum : ℕ) where
+    own : Outcome b cleared committed (Ok k) cleared' committed'
     own = subst (λ (a : Answer). Outcome b cleared committed a cleared' committed') e out
 
     price-own : quoted k.price ≡ price (contents_of b)

@@ -1,20 +1,15 @@
 -- The numbers of a row in full.
 -- Assumes nothing.
-use Rattle.std.specs.Prelude.{ℕ, cond, ◌||◌, List, [], ◌∷◌, ◌++◌, eqb}
+use Rattle.std.specs.Prelude.{ℕ, cond, ◌||◌, List, [], ◌∷◌, ◌++◌, eqb, Some, None, Ok, Err}
 use Rattle.values.specs.declared.place.Offer.{Offer}
-use Rattle.pricing.specs.declared.ClearingPrice.{ClearingPrice}
 use Rattle.reasons.specs.declared.share.Share.{Share}
-use Rattle.reasons.specs.declared.share.RowShare.{RowShare}
-use Rattle.reasons.specs.declared.share.RowShare.TheVariants.{Shares, NoRow}
-use Rattle.readout.specs.declared.RowOffer.{RowOffer}
-use Rattle.readout.specs.declared.RowOffer.TheVariants.{Offered, Unread}
 use Rattle.workings.specs.declared.row.RowWorks.{RowWorks}
-use Rattle.workings.specs.declared.row.WorkedRow.{WorkedRow}
-use Rattle.workings.specs.declared.row.WorkedRow.TheVariants.{Row, NoRow as WorkedRow-as-NoRow}
-use Rattle.workings.specs.declared.works.WorksAnswer.{WorksAnswer}
-use Rattle.workings.specs.declared.works.WorksAnswer.TheVariants.{Worked, Refused}
 use Rattle.rowlines.specs.Rows.{offer_numbers, part_numbers, settled_numbers}
 use Rattle.rowlines.specs.Turn.{turn_numbers}
+use Rattle.pricing.specs.Price.{ClearingPrice}
+use Rattle.reasons.specs.Share.{RowShare}
+use Rattle.readout.specs.Read.{RowOffer}
+use Rattle.workings.specs.Works.{WorkedRow, WorksAnswer}
 
 -- a row's turn in the contest, where its level is divided
 unfoldable pub turn_parts : ℕ → Share → RowWorks → List (List ℕ)
@@ -29,12 +24,12 @@ full_parts edition row o price s w =
 
 -- by its workings, where they are there
 abbrev pub worked_parts : (edition row : ℕ) → Offer → ClearingPrice → RowShare → WorkedRow → List (List ℕ)
-worked_parts edition row o price (Shares s) (Row w) = full_parts edition row o price s w
-worked_parts edition row o price (Shares s) WorkedRow-as-NoRow = []
-worked_parts edition row o price NoRow w = []
+worked_parts edition row o price (Some s) (Some w) = full_parts edition row o price s w
+worked_parts edition row o price (Some s) None = []
+worked_parts edition row o price None w = []
 
 -- a row that is there, of a book that is accepted
 abbrev pub row_parts : (edition row : ℕ) → RowOffer → WorksAnswer → List (List ℕ)
-row_parts edition row (Offered o) (Worked w) = worked_parts edition row o w.price w.share w.row
-row_parts edition row (Offered o) (Refused number place) = []
-row_parts edition row Unread w = []
+row_parts edition row (Some o) (Ok w) = worked_parts edition row o w.price w.share w.row
+row_parts edition row (Some o) (Err refusal) = []
+row_parts edition row None w = []

@@ -1,12 +1,10 @@
 -- The numbers of the rows of a book: few in full, many as a table.
 -- Assumes nothing.
-use Rattle.std.specs.Prelude.{ℕ, cond, List, [], ◌∷◌, ◌++◌, eqb, leb}
+use Rattle.std.specs.Prelude.{ℕ, cond, List, [], ◌∷◌, ◌++◌, eqb, leb, Ok, Err, Some, None}
+use Rattle.std.specs.declared.option.Option.{Option}
 use Rattle.readout.specs.declared.Head.{Head}
-use Rattle.readout.specs.declared.Head.TheVariants.{Stated, Unread}
 use Rattle.readout.specs.Facts.{row_in, rows_in}
-use Rattle.workings.specs.declared.works.WorksAnswer.{WorksAnswer}
-use Rattle.workings.specs.declared.works.WorksAnswer.TheVariants.{Worked, Refused}
-use Rattle.workings.specs.Works.{worked}
+use Rattle.workings.specs.Works.{worked, WorksAnswer}
 use Rattle.rowlines.specs.Rows.{rows_head_numbers}
 use Rattle.rowlines.specs.Table.{table_head_numbers}
 use Rattle.forms.specs.Parts.{parts_of}
@@ -27,7 +25,7 @@ rows_by b edition amount sum n =
     (table_head_numbers ∷ table_parts b amount sum n))
 
 -- of a book that is accepted
-abbrev pub rows_parts : List ℕ → Head → WorksAnswer → List (List ℕ)
-rows_parts b (Stated edition p offers) (Worked w) = rows_by b edition w.stop.level.amount w.stop.level.sum (rows_in b)
-rows_parts b (Stated edition p offers) (Refused number place) = []
-rows_parts b Unread w = []
+abbrev pub rows_parts : List ℕ → Option Head → WorksAnswer → List (List ℕ)
+rows_parts b (Some h) (Ok w) = rows_by b h.edition w.stop.level.amount w.stop.level.sum (rows_in b)
+rows_parts b (Some h) (Err refusal) = []
+rows_parts b None w = []

@@ -1,35 +1,28 @@
 // The rows of an accepted book: few in full, many as a table.
 ghost use Rattle.std.specs.Prelude.{◌≡◌, ◌≤◌};
-ghost use Rattle.values.specs.declared.Verdict.TheVariants.{Passed};
 ghost use Rattle.book.specs.Faults.{first_fault};
 ghost use Rattle.forms.specs.Shown.{Shows};
 ghost use Rattle.readout.specs.Facts.{head_in, rows_in};
 ghost use Rattle.workings.specs.Works.{worked};
 ghost use Rattle.rowpages.specs.Rows.{rows_by, rows_parts};
+ghost use Rattle.values.specs.Refusals.{no_fault};
 
 use crate::few::put_few;
 use crate::table::put_table;
-use readout::{Head, head_of, rows_of};
+use levels::level::Level;
+use readout::{head_of, rows_of};
 use rowlines::rows::put_rows_head;
 use rowlines::table::put_table_head;
 use workings::NO_ROW;
-use workings::works::{WorksAnswer, workings};
+use workings::works::workings;
 
 // The most rows that are shown in full: as many as fill a block.
 const FEW: usize = 15;
 
 // Puts the n rows of an accepted book: in full, or as a table where there are many.
-fn put_some(
-    room: &mut [u8],
-    at: usize,
-    book: &[u8],
-    edition: u32,
-    n: usize,
-    amount: u32,
-    sum: u32,
-) -> usize
-    requires { (first_fault book.now ≡ Passed) × (n ≡ rows_in book.now) × (n ≤ 600) }
-    ensures { Shows room.old at (rows_by book.now edition amount sum n) room.new result }
+fn put_some(room: &mut [u8], at: usize, book: &[u8], edition: u32, n: usize, level: Level) -> usize
+    requires { (first_fault book.now ≡ no_fault) × (n ≡ rows_in book.now) × (n ≤ 600) }
+    ensures { Shows room.old at (rows_by book.now edition level.amount level.sum n) room.new result }
 {
     if n == 0 {
         return at;
@@ -39,28 +32,18 @@ fn put_some(
         return put_few(room, head, book, edition, n);
     }
     let head = put_table_head(room, at);
-    put_table(room, head, book, n, amount, sum)
+    put_table(room, head, book, n, level)
 }
 
 // Puts the rows of a book, where it is accepted.
 pub fn put_rows(room: &mut [u8], at: usize, book: &[u8]) -> usize
     ensures { Shows room.old at (rows_parts book.now (head_in book.now) (worked book.now 600 600 600)) room.new result }
 {
-    let Head::Stated(edition, _, _) = head_of(book) else {
+    let Some(head) = head_of(book) else {
         return at;
     };
-    let WorksAnswer::Worked(w) = workings(book, NO_ROW, NO_ROW, NO_ROW) else {
+    let Ok(w) = workings(book, NO_ROW, NO_ROW, NO_ROW) else {
         return at;
     };
-    let stop = w.stop;
-    let level = stop.level;
-    put_some(
-        room,
-        at,
-        book,
-        edition,
-        rows_of(book),
-        level.amount,
-        level.sum,
-    )
+    put_some(room, at, book, head.edition, rows_of(book), w.stop.level)
 }

@@ -1,6 +1,5 @@
 // Rows as a table: one line each. What all rows clear and commit is worked out once, into two buffers.
 ghost use Rattle.std.specs.Prelude.{◌≡◌, ◌≤◌, ◌-◌, length};
-ghost use Rattle.values.specs.declared.Verdict.TheVariants.{Passed};
 ghost use Rattle.auction.specs.Settlement.{mills};
 ghost use Rattle.settle.specs.inner.Read.{quoted};
 ghost use Rattle.book.specs.Faults.{first_fault};
@@ -9,12 +8,14 @@ ghost use Rattle.forms.specs.Parts.{parts_of};
 ghost use Rattle.readout.specs.Facts.{row_in, rows_in};
 ghost use Rattle.rowpages.specs.Table.{line_parts, table_parts};
 ghost use Rattle.rowpages.specs.inner.Table.{line_by};
+ghost use Rattle.values.specs.Refusals.{no_fault};
 
-use call::{Answer, clear};
-use pricing::ClearingPrice;
-use readout::{RowOffer, offer_of};
+use call::clear;
+use levels::level::Level;
+use readout::offer_of;
 use rowlines::table::put_line;
 use settle::make_whole;
+use units::CentsPerMwDay;
 
 // Puts the line of a row, where it is there.
 fn put_line_of(
@@ -22,7 +23,7 @@ fn put_line_of(
     at: usize,
     book: &[u8],
     row: usize,
-    price: ClearingPrice,
+    price: Option<CentsPerMwDay>,
     cleared: u32,
     committed: u32,
     amount: u32,
@@ -31,7 +32,7 @@ fn put_line_of(
     ensures { Shows room.old at (line_parts row (row_in book.now row) cleared committed (mills (quoted price) (committed - cleared)) amount sum) room.new result }
 {
     match offer_of(book, row) {
-        RowOffer::Offered(o) => put_line(
+        Some(o) => put_line(
             room,
             at,
             row,
@@ -42,7 +43,7 @@ fn put_line_of(
             amount,
             sum,
         ),
-        RowOffer::Unread => at,
+        None => at,
     }
 }
 
@@ -52,7 +53,7 @@ fn put_lines(
     at: usize,
     book: &[u8],
     n: usize,
-    price: ClearingPrice,
+    price: Option<CentsPerMwDay>,
     cleared: &[u32],
     committed: &[u32],
     amount: u32,
@@ -78,26 +79,25 @@ fn put_lines(
     behind
 }
 
-// Puts the lines of the n rows of an accepted book. The level at which its total stops receives `amount` of `sum`.
-pub(crate) fn put_table(
-    room: &mut [u8],
-    at: usize,
-    book: &[u8],
-    n: usize,
-    amount: u32,
-    sum: u32,
-) -> usize
-    requires { (first_fault book.now ≡ Passed) × (n ≡ rows_in book.now) × (n ≤ 600) }
-    ensures { Shows room.old at (table_parts book.now amount sum n) room.new result }
+// Puts the lines of the n rows of an accepted book, by the level at which its total stops.
+pub(crate) fn put_table(room: &mut [u8], at: usize, book: &[u8], n: usize, level: Level) -> usize
+    requires { (first_fault book.now ≡ no_fault) × (n ≡ rows_in book.now) × (n ≤ 600) }
+    ensures { Shows room.old at (table_parts book.now level.amount level.sum n) room.new result }
 {
     let mut cleared = [0u32; 600];
     let mut committed = [0u32; 600];
-    let answer = clear(book, &mut cleared, &mut committed);
-    match answer {
-        Answer::Cleared(k) => {
-            let price = k.price;
-            put_lines(room, at, book, n, price, &cleared, &committed, amount, sum)
-        }
-        Answer::Refused(_, _) => at,
-    }
+    let Ok(k) = clear(book, &mut cleared, &mut committed) else {
+        return at;
+    };
+    put_lines(
+        room,
+        at,
+        book,
+        n,
+        k.price,
+        &cleared,
+        &committed,
+        level.amount,
+        level.sum,
+    )
 }

@@ -6,20 +6,19 @@ use Prim.Native.Nat.{ℕ}
 use contract.Lifetimes.{Lfts}
 use denote.Ref.{Bor, MutBor}
 use Rattle.values.specs.declared.head.Parameters.{Parameters}
-use Rattle.columns.specs.inner.Columns.{columns_of}
+use Rattle.columns.specs.declared.rows.Rows.{Rows}
+use Rattle.columns.specs.inner.Sides.{rows_in, lists_behind}
 use Rattle.sale.specs.inner.Sale.{SomeStand}
 use Rattle.sale.specs.declared.Clearing.{Clearing}
 use Rattle.sale.proofs.payment.clearing.Reads as clearing
 
-pub clearing-decided : (κs : Lfts 8) (p : Parameters) (n : ℕ) (prices quantities leasts resources stamps steps : Bor (List ℕ))
+pub clearing-decided : (κs : Lfts 4) (p : Parameters) (rows : Bor Rows)
     (cleared committed cleared₁ committed₁ cleared₂ committed₂ : MutBor (List ℕ)) (r s : Clearing)
-    → SomeStand p n (columns_of prices.now quantities.now leasts.now resources.now stamps.now steps.now)
-    → clearing.Post κs (p, (n, (prices, (quantities, (leasts, (resources, (stamps, (steps, (cleared, (committed, tt)))))))))) r
-    (p, (n, (prices, (quantities, (leasts, (resources, (stamps, (steps, (cleared₁, (committed₁, tt))))))))))
-    → clearing.Post κs (p, (n, (prices, (quantities, (leasts, (resources, (stamps, (steps, (cleared, (committed, tt)))))))))) s
-    (p, (n, (prices, (quantities, (leasts, (resources, (stamps, (steps, (cleared₂, (committed₂, tt))))))))))
+    → SomeStand p (rows_in rows.now) (lists_behind rows.now)
+    → clearing.Post κs (p, (rows, (cleared, (committed, tt)))) r (p, (rows, (cleared₁, (committed₁, tt))))
+    → clearing.Post κs (p, (rows, (cleared, (committed, tt)))) s (p, (rows, (cleared₂, (committed₂, tt))))
     → (r ≡ s) × (cleared₁.now ≡ cleared₂.now) × (committed₁.now ≡ committed₂.now)
-clearing-decided κs p n prices quantities leasts resources stamps steps cleared committed cleared₁ committed₁ cleared₂ committed₂ r s some e f =
+clearing-decided κs p rows cleared committed cleared₁ committed₁ cleared₂ committed₂ r s some e f =
     let a = e some.contents some.stands in
     let b = f some.contents some.stands in (
       a.clearing ∙ sym b.clearing,

@@ -25,8 +25,7 @@ use Rattle.values.specs.Contents.{Contents, offer_at}
 use Rattle.values.specs.declared.head.Parameters.{Parameters}
 use Rattle.region.specs.Region.{region_curve}
 use Rattle.curve.proofs.Prices.{price-most}
-use Rattle.pricing.specs.Price.{as_price}
-use Rattle.pricing.specs.declared.ClearingPrice.{ClearingPrice}
+use Rattle.pricing.specs.Price.{as_price, ClearingPrice}
 use Rattle.settle.specs.Read.{optional}
 use Rattle.settle.specs.inner.Read.{quoted}
 use Rattle.settle.specs.inner.Rows.{committed_from, row_commits, row_past, Committable}

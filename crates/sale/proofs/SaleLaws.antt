@@ -16,10 +16,9 @@ use Rattle.curve.specs.Price.{demand_of}
 use Rattle.curve.specs.declared.Curve.{Curve}
 use Rattle.levels.specs.inner.Rows.{RowLists, listed}
 use Rattle.levels.specs.inner.Stop.{StopsAt}
-use Rattle.pricing.specs.Price.{as_price}
+use Rattle.pricing.specs.Price.{as_price, ClearingPrice}
 use Rattle.pricing.specs.inner.Price.{price_at}
 use Rattle.levels.specs.declared.level.Level.{Level}
-use Rattle.pricing.specs.declared.ClearingPrice.{ClearingPrice}
 use Rattle.pricing.proofs.Agree.{price-agrees}
 use Rattle.shares.specs.inner.Out.{SharedOut}
 use Rattle.columns.specs.inner.Column.{rows_of}

@@ -3,11 +3,12 @@
 -- In order: the columns are the offers of the contents; their prices and quantities; their keys for the spare tenths; the leasts
 -- that they commit; the amounts shared out are what the rows clear.
 -- Assumes nothing.
-use mathlib.Core.Path.{◌≡◌, refl, ap, sym, subst, ◌∙◌}
+use mathlib.Core.Path.{◌≡◌, ap, sym, subst, ◌∙◌}
 use mathlib.Core.List.{List}
 use Prim.Native.Nat.{ℕ, ◌≤◌, ◌<◌}
 use native.Mathlib.Omega.{arith}
 use lib.ListN.{length, get_or}
+use Rattle.std.proofs.lemmas.List.{length-take-le}
 use Rattle.laws.specs.Filled.{filled}
 use Rattle.auction.specs.Offers.{Offers}
 use Rattle.auction.specs.Shares.{cleared}
@@ -17,7 +18,9 @@ use Rattle.levels.specs.inner.Rows.{RowLists}
 use Rattle.shares.specs.inner.Out.{SharedOut, Ordered}
 use Rattle.shares.proofs.Outcome.{shared-filled}
 use Rattle.columns.specs.inner.Column.{row_price, row_quantity, row_least, row_resource, row_stamp, row_step, rows_of}
-use Rattle.columns.specs.inner.Columns.{Columns}
+use Rattle.columns.specs.inner.Columns.{Columns, Listed}
+use Rattle.columns.specs.inner.Sides.{first_rows}
+use Rattle.columns.proofs.Firsts.{first-listed}
 use Rattle.columns.proofs.Offers.{column-long, column-row, listed-offers}
 use Rattle.sale.specs.Auction.{offers_of, total, row_cleared}
 use Rattle.sale.specs.Payment.{cleared_list}
@@ -88,3 +91,18 @@ module _ (c : Contents) (p : Parameters) (n : ℕ) (v : Columns) (s : Stands c p
       shared-filled _ x before after long shared
       ∙ ap (λ (o : Offers). filled (cleared o x) o.count before) columns-offers
       ∙ ap (λ (y : ℕ). filled (cleared (offers_of c.offers) y) (length c.offers) before) e
+
+  module _ (w : Columns) (e : w ≡ first_rows n v) where
+    -- as many rows as the contents have
+    pub first-count : length w.prices ≡ n
+    first-count = ap (λ (u : Columns). length u.prices) e ∙ length-take-le n v.prices columns-rows.priced
+
+    -- the contents stand in the first rows, and in nothing past them
+    pub first-stands : Stands c p (length w.prices) w
+    first-stands =
+        record {
+          own = s.own;
+          count = first-count ∙ s.count;
+          clearable = s.clearable;
+          listed = subst (Listed c.offers) (sym e) (first-listed c.offers n v s.count s.listed);
+        }

@@ -1,6 +1,6 @@
 -- The clearing of what a book says, and what it leaves in the lists of cleared and committed tenths.
 -- Assumes nothing.
-use Rattle.std.specs.Prelude.{◌≡◌, List, ℕ, length}
+use Rattle.std.specs.Prelude.{List, ℕ, length}
 use Rattle.laws.specs.Filled.{filled}
 use Rattle.values.specs.Contents.{Contents}
 use Rattle.pricing.specs.Price.{as_price}

@@ -5,7 +5,7 @@
 pub mod payment;
 pub mod sell;
 
-use pricing::ClearingPrice;
+use units::CentsPerMwDay;
 
 // What a book clears. Quantities are tenths of a megawatt, amounts mills.
 #[derive(Clone, Copy)]
@@ -13,7 +13,7 @@ pub struct Clearing {
     // X
     pub total: u32,
     // in cents per MW-day; where nothing clears there is none
-    pub price: ClearingPrice,
+    pub price: Option<CentsPerMwDay>,
     pub make_whole: u64,
     pub daily: u64,
     pub year: u64,

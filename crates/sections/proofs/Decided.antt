@@ -13,13 +13,13 @@ use lib.Dec.{eqb}
 use Rattle.laws.proofs.Answers.{same_answer}
 use Rattle.block.specs.Bytes.{u32_at}
 use Rattle.values.specs.Values.{absent_is_zero}
-use Rattle.values.specs.declared.Verdict.{Verdict}
 use Rattle.sections.specs.Section.{section_fault}
 use Rattle.sections.specs.declared.section.Section.{Section}
 use Rattle.sections.proofs.marks.absent_holds.Reads as absent-holds
 use Rattle.sections.proofs.rows.section_fault.Reads as section-fault
 use Rattle.sections.proofs.section.blocks_for.Reads as blocks-for
 use Rattle.sections.proofs.section.rows_here.Reads as rows-here
+use Rattle.values.specs.Refusals.{Verdict}
 
 module _ (κs : Lfts 1) (book other : Bor (List ℕ)) (same : book.now ≡ other.now) where
   -- whether a value not given has zero bytes, by the contract of `absent_holds`

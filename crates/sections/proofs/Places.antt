@@ -6,8 +6,8 @@
 use mathlib.Core.Path.{◌≡◌, sym, ap, ◌∙◌}
 use mathlib.Core.Bool.{Bool, true, ◌&&◌}
 use mathlib.Core.List.{List}
-use Prim.Native.Nat.{ℕ, ◌+◌, ◌-◌, ◌*◌, ◌/◌, ◌%◌, ◌≤◌, ◌<◌}
-use native.Mathlib.Nat.{zero-add}
+use Prim.Native.Nat.{ℕ, ◌+◌, ◌-◌, ◌*◌, ◌/◌, ◌%◌, ◌≤◌, ◌<◌, min}
+use native.Mathlib.Nat.{zero-add, le_refl, le_of_lt, min-eq_left, min-eq_right}
 use native.Mathlib.Omega.{arith}
 use lib.Dec.{ltb}
 use lib.Seq.{get_or-take, get_or-drop}
@@ -41,8 +41,16 @@ zero-byte : (p : List ℕ) (i : ℕ) → blank p 0 32 ≡ true → i < 32 → by
 zero-byte p i e l = rw zero-add at (blank-at p 0 32 i e l)
 
 -- past the last of fifteen used places there is no byte to test
-pub rest-none : (s : List ℕ) (here : ℕ) → 15 ≤ here → true ≡ blank s (28 + here * 32) ((15 - here) * 32)
-rest-none s here l = sym (blank-all s (28 + here * 32) ((15 - here) * 32) (λ i k. omega arith))
+rest-none : (s : List ℕ) (here : ℕ) → 15 ≤ here → blank s (28 + here * 32) ((15 - here) * 32) ≡ true
+rest-none s here l = blank-all s (28 + here * 32) ((15 - here) * 32) (λ i k. omega arith)
+
+-- so where more places than there are would be used, the bytes after the last are tested, which are none
+pub rest-least : (s : List ℕ) (here : ℕ)
+    → blank s (28 + min here 15 * 32) ((15 - min here 15) * 32) ≡ blank s (28 + here * 32) ((15 - here) * 32)
+rest-least s here =
+    by_order here 15
+    (λ l. rw (min-eq_left l))
+    (λ l. rw (min-eq_right (le_of_lt l)) (rest-none s 15 (le_refl 15) ∙ sym (rest-none s here (le_of_lt l))))
 
 module _ (last : LastBytes) (s : List ℕ) (here : ℕ) where
   -- place i holds; it is laid out as a used one, if it is used; the bytes from the first unused place on are zero

@@ -7,8 +7,7 @@ use Rattle.std.specs.Prelude.{ℕ, ◌+◌, ◌-◌, ◌*◌, ◌/◌, min, Bool
 use Rattle.laws.specs.Sum.{every}
 use Rattle.block.specs.Bytes.{byte, u16_at, u32_at, opens_with, blank}
 use Rattle.values.specs.Values.{marked, absent_is_zero}
-use Rattle.values.specs.Refusals.{wrong_layout, unless, first}
-use Rattle.values.specs.declared.Verdict.{Verdict}
+use Rattle.values.specs.Refusals.{wrong_layout, unless, first, Verdict}
 use Rattle.sections.specs.Blocks.{block_of, place_of}
 use Rattle.sections.specs.declared.section.LastBytes.{LastBytes}
 use Rattle.sections.specs.declared.section.Section.{Section}

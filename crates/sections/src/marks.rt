@@ -10,8 +10,5 @@ pub fn absent_holds(s: &[u8], at: usize, marks: u8, weight: u8) -> bool
     requires { (at + 4 ≤ length s.now) × (0 < weight) }
     ensures { result ≡ absent_is_zero (eqb (marks / weight % 2) 1) (u32_at s.now at) }
 {
-    if marks / weight % 2 == 1 {
-        return true;
-    }
-    u32_at(s, at) == 0
+    marks / weight % 2 == 1 || u32_at(s, at) == 0
 }

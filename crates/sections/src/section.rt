@@ -53,7 +53,7 @@ pub fn blocks_for(rows: usize) -> usize
     requires { rows ≤ 65535 }
     ensures { result ≡ blocks_for rows }
 {
-    (rows + 14) / PLACES
+    rows.div_ceil(PLACES)
 }
 
 // How many of so many rows stand in block j of theirs, from 0.
@@ -61,6 +61,5 @@ pub fn rows_here(rows: usize, j: usize) -> usize
     requires { j * 15 ≤ rows }
     ensures { result ≡ rows_here rows j }
 {
-    let left = rows - j * PLACES;
-    if left < PLACES { left } else { PLACES }
+    PLACES.min(rows - j * PLACES)
 }

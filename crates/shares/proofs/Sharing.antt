@@ -4,7 +4,7 @@
 -- its share rounded down; away from the stop nothing is spare; where nothing is spare at the stop, a row clears its part.
 -- Assumes nothing.
 use mathlib.Core.Path.{◌≡◌, refl, sym, ap, ◌∙◌}
-use Prim.Native.Nat.{ℕ, ◌-◌, ◌*◌, ◌/◌, ◌≤◌, ◌<◌}
+use Prim.Native.Nat.{ℕ, ◌*◌, ◌/◌, ◌≤◌, ◌<◌}
 use native.Mathlib.Nat.{add-zero, mul-zero, zero-div, mul-div_cancel, le_trans}
 use native.Mathlib.Omega.{arith}
 use lib.Dec.{eqb}

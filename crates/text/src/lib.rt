@@ -10,7 +10,6 @@ ghost use Rattle.std.specs.Prelude.{[], ◌∷◌};
 ghost use Rattle.text.specs.Put.{Written, right_text};
 
 pub use number::{put_decimal, put_number};
-use numbers::{excess_size, lesser_size};
 
 // Puts bytes.
 pub fn put_bytes(out: &mut [u8], at: usize, bytes: &[u8]) -> usize
@@ -22,35 +21,28 @@ pub fn put_bytes(out: &mut [u8], at: usize, bytes: &[u8]) -> usize
     if bytes.len() > out.len() - at {
         return at;
     }
-    let mut i = 0;
-    while i < bytes.len() {
-        out[at + i] = bytes[i];
-        i += 1;
-    }
-    at + bytes.len()
+    let end = at + bytes.len();
+    out[at..end].copy_from_slice(bytes);
+    end
 }
 
 // Puts one byte.
 pub fn put_byte(out: &mut [u8], at: usize, byte: u8) -> usize
     ensures { Written out.old at (byte ∷ []) out.new result }
 {
-    let one = [byte];
-    put_bytes(out, at, &one)
+    put_bytes(out, at, &[byte])
 }
 
 // Puts bytes with as many of `fill` in front as make them `width` bytes.
 pub fn put_right(out: &mut [u8], at: usize, bytes: &[u8], width: usize, fill: u8) -> usize
     ensures { Written out.old at (right_text width fill bytes.now) out.new result }
 {
-    let gap = excess_size(width, bytes.len());
-    let mut place = lesser_size(at, out.len());
+    let gap = width.saturating_sub(bytes.len());
+    let place = at.min(out.len());
     if gap + bytes.len() > out.len() - place {
         return place;
     }
-    let mut i = 0;
-    while i < gap {
-        place = put_byte(out, place, fill);
-        i += 1;
-    }
-    put_bytes(out, place, bytes)
+    let behind = place + gap;
+    out[place..behind].fill(fill);
+    put_bytes(out, behind, bytes)
 }

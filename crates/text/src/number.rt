@@ -5,7 +5,6 @@ ghost use Rattle.text.specs.Number.{number_text};
 ghost use Rattle.text.specs.inner.Number.{decimal_text};
 
 use crate::{put_byte, put_bytes, put_right};
-use numbers::lesser_size;
 
 // Puts a number's digits.
 pub fn put_number(out: &mut [u8], at: usize, n: u64) -> usize
@@ -19,8 +18,8 @@ pub fn put_number(out: &mut [u8], at: usize, n: u64) -> usize
 pub fn put_decimal(out: &mut [u8], at: usize, n: u64, places: usize) -> usize
     ensures { Written out.old at (decimal_text (min places 19) n) out.new result }
 {
-    let p = lesser_size(places, 19);
-    let unit = power(p);
+    let p = places.min(19);
+    let unit = 10u64.pow(p as u32);
     let mut text = [0u8; 41];
     let point = put_number(&mut text, 0, n / unit);
     let rest = put_byte(&mut text, point, b'.');
@@ -35,18 +34,4 @@ fn put_filled(out: &mut [u8], at: usize, n: u64, width: usize, fill: u8) -> usiz
     let mut digits = [0u8; 20];
     let k = io::decimal(n, &mut digits);
     put_right(out, at, &digits[..k], width, fill)
-}
-
-// 10 to the power of `places`.
-fn power(places: usize) -> u64
-    requires { places ≤ 19 }
-    ensures { (result ≡ 10 ^ places) × (0 < result) }
-{
-    let mut unit = 1;
-    let mut i = 0;
-    while i < places {
-        unit *= 10;
-        i += 1;
-    }
-    unit
 }

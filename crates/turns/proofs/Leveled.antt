@@ -1,6 +1,6 @@
 -- A price level over lists of rows: its parts rounded down, and what they leave.
 --
--- In order: a level found can be divided; a level looks at prices and quantities alone; a part is at most the quantity, and is
+-- In order: a level can be divided; a level looks at prices and quantities alone; a part is at most the quantity, and is
 -- the row's share rounded down; the parts of a level are at most what it receives, and leave its spare tenths.
 -- Assumes nothing.
 use mathlib.Core.Path.{◌≡◌, refl, ap, ◌∙◌}
@@ -18,42 +18,37 @@ use Rattle.auction.specs.Offers.{Offers, supply_below, level_sum}
 use Rattle.auction.specs.Shares.{level_amount, weighted, share_down, spare_tenths}
 use Rattle.auction.proofs.LevelDivision.{level_amount-most}
 use Rattle.auction.proofs.Spares.{spares-rest}
-use Rattle.columns.specs.inner.Column.{rows_of}
+use Rattle.columns.specs.inner.Sides.{offers_in}
+use Rattle.columns.specs.declared.rows.Rows.{Rows}
+use Rattle.levels.specs.inner.Asks.{offers_in as asked_in}
 use Rattle.levels.specs.inner.Rows.{listed}
 use Rattle.reasons.specs.inner.Share.{Positive, LevelAt}
 use Rattle.reasons.specs.declared.share.Received.{Received}
 use Rattle.reasons.proofs.Shared.{row-level}
-use Rattle.turns.specs.inner.Contending.{LevelFound, parts_in}
+use Rattle.turns.specs.inner.Contending.{Parted, parts_in}
 
 -- a level of rows that each offer something can be divided
-pub level-found : (prices quantities : List ℕ) (n x p : ℕ) (l : Received) → Positive quantities n
-    → LevelAt (listed prices quantities n) x p l → LevelFound prices quantities n x p l
-level-found prices quantities n x p l positive f =
+pub level-parted : (prices quantities : List ℕ) (n x p : ℕ) (l : Received) → Positive quantities n
+    → LevelAt (listed prices quantities n) x p l → Parted prices n p l
+level-parted prices quantities n x p l positive f =
     let o = listed prices quantities n in
     record {
-      level = f;
-      parted =
-          record {
-            some = λ i h at. omega (arith, f.sum, row-level o i h (positive i h), ap (level_sum o) at);
-            within = omega (arith, f.amount, f.sum, level_amount-most o x p);
-          };
+      some = λ i h at. omega (arith, f.sum, row-level o i h (positive i h), ap (level_sum o) at);
+      within = omega (arith, f.amount, f.sum, level_amount-most o x p);
     }
 
-module _ (prices quantities stamps resources steps : List ℕ) (n x : ℕ) where
-  abbrev rows : Offers
-  rows = rows_of prices quantities stamps resources steps n
-
+module _ (rows : Rows) (x : ℕ) where
   -- a level looks at no stamp, no resource and no step
-  pub level-rows : (p : ℕ) (l : Received) → LevelAt (listed prices quantities n) x p l → LevelAt rows x p l
+  pub level-rows : (p : ℕ) (l : Received) → LevelAt (asked_in rows.asks) x p l → LevelAt (offers_in rows) x p l
   unfolding level_amount supply_below level_sum
   level-rows p l f = record { amount = f.amount; sum = f.sum }
 
   -- nor does a part of it, or a spare tenth
-  pub down-rows : (i : ℕ) → share_down (listed prices quantities n) x i ≡ share_down rows x i
+  pub down-rows : (i : ℕ) → share_down (asked_in rows.asks) x i ≡ share_down (offers_in rows) x i
   unfolding share_down weighted level_amount supply_below level_sum
   down-rows i = refl
 
-  pub spares-rows : (p : ℕ) → spare_tenths (listed prices quantities n) x p ≡ spare_tenths rows x p
+  pub spares-rows : (p : ℕ) → spare_tenths (asked_in rows.asks) x p ≡ spare_tenths (offers_in rows) x p
   unfolding spare_tenths share_down weighted level_amount supply_below level_sum
   spares-rows p = refl
 

@@ -1,3 +1,4 @@
+pub mod Counted
 pub mod Leveled
 pub mod Ordering
 pub mod Firsts

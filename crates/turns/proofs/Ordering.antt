@@ -1,15 +1,18 @@
 -- The order of spare tenths, as contenders have it.
 --
--- In order: a key that differs decides, and one that is the same leaves it to the next; a row's contender is what the level makes
--- of it, and contenders are in the order of the rows; how many stand before a row's contender is the row's rank; what decides between
+-- In order: a comparison of keys in order; a row's contender is what the level makes of it, and contenders are in the order of the rows; how many stand before a row's contender is the row's rank; what decides between
 -- two contenders decides between their rows.
 -- Assumes nothing.
 use mathlib.Core.Path.{◌≡◌, refl, sym, ap, subst, ◌∙◌}
-use mathlib.Core.Bool.{Bool, true, false, ◌&&◌, ◌||◌}
+use mathlib.Core.Bool.{Bool, true, false, cond, ◌&&◌, ◌||◌}
 use Prim.Native.Nat.{ℕ}
-use native.Mathlib.Omega.{arith}
 use lib.Dec.{ltb, eqb}
-use borrow.Author.Tests.{eqb-true, eq-eqb, ne_eqb, le-ltb}
+use borrow.Author.Tests.{eqb-true}
+use Rattle.std.specs.Prelude.{Some}
+use Rattle.std.specs.Ordering.{is_some_and, nat_cmp, partial_ordering_then, is_lt}
+use Rattle.std.specs.declared.option.Option.{Option}
+use Rattle.std.specs.declared.cmp.Ordering.{Ordering}
+use Rattle.std.specs.declared.cmp.Ordering.TheVariants.{Less, Equal, Greater}
 use Rattle.laws.proofs.Counts.{count_where-within}
 use Rattle.auction.specs.Offers.{Offers}
 use Rattle.auction.specs.Shares.{weighted, remainder, ahead, rank}
@@ -20,21 +23,32 @@ use Rattle.turns.specs.declared.order.Contender.{Contender}
 use Rattle.turns.specs.Turn.{decided_by}
 use Rattle.turns.specs.inner.Contending.{contender_of, ahead_of, decided_of, before_in}
 
-or-none : (t : Bool) → t ≡ (t || false)
-or-none true = refl
-or-none false = refl
+-- how a key compares, by whether it is lower and whether it is the same
+abbrev compared : (lower same : Bool) → Option Ordering
+compared lower same = Some (cond lower Less (cond same Equal Greater))
 
--- a key that differs decides
-pub key-differs : (a b : ℕ) (rest : Bool) → (a ≡ b → ⊥) → ltb a b ≡ (ltb a b || (eqb a b && rest))
-key-differs a b rest ne = rw (ne_eqb a b ne) (or-none (ltb a b))
+-- of four keys compared in order the first that differs decides
+first-differs : (a b c d e f g h : Bool)
+    → is_some_and is_lt (partial_ordering_then (partial_ordering_then (partial_ordering_then (compared a b) (compared c d)) (compared e f)) (compared g h))
+    ≡ (a || (b && (c || (d && (e || (f && g))))))
+first-differs true b c d e f g h = refl
+first-differs false false c d e f g h = refl
+first-differs false true true d e f g h = refl
+first-differs false true false false e f g h = refl
+first-differs false true false true true f g h = refl
+first-differs false true false true false false g h = refl
+first-differs false true false true false true true h = refl
+first-differs false true false true false true false true = refl
+first-differs false true false true false true false false = refl
 
--- one that is the same leaves it to the next
-pub key-same : (a b : ℕ) (rest : Bool) → a ≡ b → rest ≡ (ltb a b || (eqb a b && rest))
-key-same a b rest e = rw (le-ltb a b (omega arith), eq-eqb a b e)
-
--- what the code was told of a contender
-pub ahead-told : (own : Contender) {c d : Contender} {r v : Bool} → c ≡ d → r ≡ ahead_of c own → r ≡ v → ahead_of d own ≡ v
-ahead-told own e f g = sym (f ∙ ap (λ k. ahead_of k own) e) ∙ g
+-- the keys of two contenders compared in order, the remainders the other way round
+pub ahead-compared : (a b : Contender)
+    → is_some_and is_lt (partial_ordering_then (partial_ordering_then (partial_ordering_then (Some (nat_cmp b.remainder a.remainder)) (Some (nat_cmp a.stamp b.stamp))) (Some (nat_cmp a.resource b.resource))) (Some (nat_cmp a.step b.step)))
+    ≡ ahead_of a b
+unfolding ahead_of
+ahead-compared a b =
+    first-differs (ltb b.remainder a.remainder) (eqb b.remainder a.remainder) (ltb a.stamp b.stamp) (eqb a.stamp b.stamp)
+    (ltb a.resource b.resource) (eqb a.resource b.resource) (ltb a.step b.step) (eqb a.step b.step)
 
 module _ (o : Offers) (x : ℕ) where
   -- a row's contender is what its level makes of it

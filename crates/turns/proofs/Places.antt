@@ -5,7 +5,6 @@
 -- Assumes nothing.
 use mathlib.Core.Path.{◌≡◌, refl, sym, ap, subst, ◌∙◌}
 use mathlib.Core.Bool.{Bool, true, false, ◌&&◌, true≢false}
-use mathlib.Core.Option.{Option, none, some}
 use Prim.Native.Nat.{ℕ, suc, ◌+◌, ◌*◌, ◌≤◌, ◌<◌}
 use native.Mathlib.Nat.{mul-le-mul_right}
 use native.Mathlib.Omega.{arith}
@@ -22,21 +21,23 @@ use Rattle.auction.specs.Shares.{remainder, spare_tenths, ahead, rank}
 use Rattle.auction.proofs.Ahead.{ahead-order, ahead-untied}
 use Rattle.auction.proofs.LevelDivision.{division-rank, level_sum-positive}
 use Rattle.auction.proofs.Spares.{remainder-less, spares-exact}
+use Rattle.std.specs.Prelude.{Some, None}
+use Rattle.std.specs.declared.option.Option.{Option}
 use Rattle.turns.specs.Order.{contenders, placed}
 use Rattle.turns.proofs.Firsts.{first-place, first-fails}
 use Rattle.turns.proofs.Turning.{stands_at}
 
 -- row j stands at place k of the level at p
 pub record StandsAt (o : Offers) (x p k j : ℕ) : Type 0 where
-  pub found : placed o x p k ≡ some j
+  pub found : placed o x p k ≡ Some j
   pub within : j < o.count
   pub level : o.price j ≡ p
   pub place : rank o x j ≡ k
 
 -- a place that is there, or none
-by_place : {X : Type 0} (v : Option ℕ) → (v ≡ none → X) → ((i : ℕ) → v ≡ some i → X) → X
-by_place none f g = f refl
-by_place (some i) f g = g i refl
+by_place : {X : Type 0} (v : Option ℕ) → (v ≡ None → X) → ((i : ℕ) → v ≡ Some i → X) → X
+by_place None f g = f refl
+by_place (Some i) f g = g i refl
 
 module _ (o : Offers) (x : ℕ) (proper : Proper o) where
   module _ (p : ℕ) where
@@ -91,7 +92,7 @@ module _ (o : Offers) (x : ℕ) (proper : Proper o) where
         (lt-ltb (ranked j) k (by_order k (ranked j) (λ h. absurd (other (omega arith))) (λ h. h)))
 
     -- so some row does
-    pub places-taken : (k : ℕ) → k < contenders o p → placed o x p k ≡ none → ⊥
+    pub places-taken : (k : ℕ) → k < contenders o p → placed o x p k ≡ None → ⊥
     unfolding contenders placed
     places-taken k l e =
         let untied = ahead-untied o x at proper in
@@ -103,7 +104,7 @@ module _ (o : Offers) (x : ℕ) (proper : Proper o) where
           count_where-mono _ _ o.count (skips k (first-fails (stands_at o x p k) o.count e)),
         )
 
-    placed-stands : (k j : ℕ) → placed o x p k ≡ some j → StandsAt o x p k j
+    placed-stands : (k j : ℕ) → placed o x p k ≡ Some j → StandsAt o x p k j
     unfolding placed
     placed-stands k j e =
         let f = first-place (stands_at o x p k) o.count j e in

@@ -3,7 +3,6 @@
 -- Assumes nothing.
 use mathlib.Core.Path.{◌≡◌, refl, sym, ap, ◌∙◌}
 use mathlib.Core.Bool.{Bool, true}
-use mathlib.Core.Option.{some}
 use Prim.Native.Nat.{ℕ, ◌≤◌, ◌<◌}
 use native.Mathlib.Omega.{arith}
 use lib.Dec.{eqb}
@@ -14,13 +13,14 @@ use Rattle.auction.specs.Offers.{Offers, Proper}
 use Rattle.auction.specs.Shares.{spare_tenths, ahead, rank}
 use Rattle.auction.proofs.Ahead.{ahead-order, ahead-untied}
 use Rattle.auction.proofs.LevelDivision.{division-rank}
+use Rattle.std.specs.Prelude.{Some}
 use Rattle.turns.specs.Order.{contenders}
 use Rattle.turns.specs.Turn.{rival_place, rival_row}
 use Rattle.turns.proofs.Places.{StandsAt, spares-fewer, placed-there}
 
 -- row j is at the other side of the cut from row i, and who gets a spare tenth is ahead of who gets none
 pub record IsRival (o : Offers) (x i j : ℕ) : Type 0 where
-  pub found : rival_row o x i ≡ some j
+  pub found : rival_row o x i ≡ Some j
   pub within : j < o.count
   pub level : o.price j ≡ o.price i
   pub gets : rank o x i < spare_tenths o x (o.price i) → (spare_tenths o x (o.price i) ≤ rank o x j) × (ahead o x i j ≡ true)

@@ -2,21 +2,23 @@
 -- Assumes nothing.
 use mathlib.Core.Path.{◌≡◌, sym, ◌∙◌}
 use mathlib.Core.Bool.{Bool, true, false, true≢false}
-use Prim.Native.Nat.{ℕ, zero, suc, ◌<◌}
+use Prim.Native.Nat.{ℕ, ◌<◌}
 use native.Mathlib.Omega.{arith}
 use borrow.Author.Tests.{eq-eqb, ne_eqb, ltb-true}
 use Rattle.laws.specs.Orders.{by_key, then_by}
 use Rattle.laws.proofs.Orders.{by-comparison, then_by-equal, then_by-higher, highest_by-equal, highest_by-lower}
 use Rattle.auction.specs.Offers.{Offers}
 use Rattle.auction.specs.Shares.{remainder, ahead}
+use Rattle.turns.specs.declared.order.Key.{Key}
+use Rattle.turns.specs.declared.order.Key.TheVariants.{Remainder, Stamp, Resource, Step}
 use Rattle.turns.specs.Turn.{decided_by}
 
 -- why row i is ahead of row j, by what decides between them
-abbrev pub Why : Offers → ℕ → ℕ → ℕ → ℕ → Type 0
-Why o x i j zero = remainder o x j < remainder o x i
-Why o x i j (suc zero) = (remainder o x i ≡ remainder o x j) × (o.stamp i < o.stamp j)
-Why o x i j (suc (suc zero)) = (remainder o x i ≡ remainder o x j) × (o.stamp i ≡ o.stamp j) × (o.resource i < o.resource j)
-Why o x i j (suc (suc (suc k))) =
+abbrev pub Why : Offers → ℕ → ℕ → ℕ → Key → Type 0
+Why o x i j Remainder = remainder o x j < remainder o x i
+Why o x i j Stamp = (remainder o x i ≡ remainder o x j) × (o.stamp i < o.stamp j)
+Why o x i j Resource = (remainder o x i ≡ remainder o x j) × (o.stamp i ≡ o.stamp j) × (o.resource i < o.resource j)
+Why o x i j Step =
     (remainder o x i ≡ remainder o x j) × (o.stamp i ≡ o.stamp j) × (o.resource i ≡ o.resource j) × (o.step i < o.step j)
 
 module _ (o : Offers) (x i j : ℕ) where

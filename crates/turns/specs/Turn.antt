@@ -1,20 +1,21 @@
 -- A row's turn for the spare tenths of its level, and the row at the other side of the cut.
 -- Assumes nothing.
-use Rattle.std.specs.Prelude.{ℕ, ◌-◌, cond, ltb, eqb}
-use Rattle.std.proofs.Math.Option.{Option, none, some}
+use Rattle.std.specs.Prelude.{ℕ, ◌-◌, cond, ltb, eqb, Some, None}
 use Rattle.auction.specs.Offers.{Offers}
 use Rattle.auction.specs.Shares.{remainder, spare_tenths, rank, cleared}
 use Rattle.turns.specs.Order.{contenders, placed, contender_at}
 use Rattle.turns.specs.declared.turn.Rival.{Rival}
-use Rattle.turns.specs.declared.turn.Rival.TheVariants.{Against, NoRival}
+use Rattle.turns.specs.declared.order.Key.{Key}
+use Rattle.turns.specs.declared.order.Key.TheVariants.{Remainder, Stamp, Resource, Step}
+use Rattle.std.specs.declared.option.Option.{Option}
 use Rattle.turns.specs.declared.turn.Turn.{Turn}
 
--- what decides between rows i and j: 0 their remainders, 1 their stamps, 2 their resources, 3 their steps
-unfoldable pub decided_by : Offers → ℕ → ℕ → ℕ → ℕ
+-- what decides between rows i and j: their remainders, their stamps, their resources or their steps
+unfoldable pub decided_by : Offers → ℕ → ℕ → ℕ → Key
 decided_by o x i j =
     cond (eqb (remainder o x i) (remainder o x j))
-    (cond (eqb (o.stamp i) (o.stamp j)) (cond (eqb (o.resource i) (o.resource j)) 3 2) 1)
-    0
+    (cond (eqb (o.stamp i) (o.stamp j)) (cond (eqb (o.resource i) (o.resource j)) Step Resource) Stamp)
+    Remainder
 
 -- the place at the other side of the cut: for one that gets a spare tenth the first that gets none, for any other the last
 -- that gets one
@@ -25,12 +26,12 @@ rival_place place spares = cond (ltb place spares) spares (spares - 1)
 unfoldable pub rival_row : Offers → ℕ → ℕ → Option ℕ
 rival_row o x i =
     let spares = spare_tenths o x (o.price i) in
-    cond (eqb spares 0) none (placed o x (o.price i) (rival_place (rank o x i) spares))
+    cond (eqb spares 0) None (placed o x (o.price i) (rival_place (rank o x i) spares))
 
 -- row i against a row that may not be there
-abbrev pub rival_by : Offers → ℕ → ℕ → Option ℕ → Rival
-rival_by o x i none = NoRival
-rival_by o x i (some j) = Against (contender_at o x j) (decided_by o x i j)
+abbrev pub rival_by : Offers → ℕ → ℕ → Option ℕ → Option Rival
+rival_by o x i None = None
+rival_by o x i (Some j) = Some (record { contender = contender_at o x j; decided = decided_by o x i j })
 
 -- row i's place in the order, how many contend for how many spare tenths, what the row clears, and its rival
 unfoldable pub turn_at : Offers → ℕ → ℕ → Turn

@@ -1,27 +1,12 @@
 // A price level, and each row's part of it rounded down.
-ghost use Rattle.std.specs.Prelude.{◌≡◌, cond, ◌*◌, ◌/◌, ◌≤◌, ◌<◌, eqb};
+ghost use Rattle.std.specs.Prelude.{◌≡◌, cond, ◌*◌, ◌/◌, ◌≤◌, ◌<◌, eqb, length};
 ghost use Rattle.auction.specs.Shares.{share_down};
-ghost use Rattle.levels.specs.inner.Rows.{RowLists, listed};
+ghost use Rattle.levels.specs.inner.Asks.{offers_in};
 ghost use Rattle.reasons.specs.inner.Share.{Positive};
-ghost use Rattle.turns.specs.inner.Contending.{Parted, LevelFound, parts_in};
+ghost use Rattle.turns.specs.inner.Contending.{Parted, parts_in};
 
-use levels::level::supply_below;
-use levels::supply::supply_at;
-use numbers::{excess, lesser};
-use reasons::share::Received;
-
-// What the level at a price receives of x, and what is offered at it.
-pub(crate) fn level_at(prices: &[u32], quantities: &[u32], n: usize, x: u32, price: u32) -> Received
-    requires { RowLists prices.now quantities.now n × Positive quantities.now n }
-    ensures { LevelFound prices.now quantities.now n x price result }
-{
-    let below = supply_below(prices, quantities, n, price);
-    let sum = supply_at(prices, quantities, n, price) - below;
-    Received {
-        amount: lesser(excess(x, below), sum),
-        sum,
-    }
-}
+use levels::asks::Asks;
+use reasons::share::{Received, level_at};
 
 // A row's part of the level at a price, rounded down: nothing where the row has another price.
 fn part(price: u32, quantity: u32, at: u32, level: Received) -> u32
@@ -29,36 +14,30 @@ fn part(price: u32, quantity: u32, at: u32, level: Received) -> u32
     ensures { (result ≡ cond (eqb price at) (quantity * level.amount / level.sum) 0) × (result ≤ quantity) }
 {
     if price == at {
-        let exact = quantity as u64 * level.amount as u64;
-        return (exact / level.sum as u64) as u32;
+        (u64::from(quantity) * u64::from(level.amount) / u64::from(level.sum)) as u32
+    } else {
+        0
     }
-    0
 }
 
 // The parts of a level rounded down, together.
-pub(crate) fn parts_at(
-    prices: &[u32],
-    quantities: &[u32],
-    n: usize,
-    price: u32,
-    level: Received,
-) -> u32
-    requires { RowLists prices.now quantities.now n × Parted prices.now n price level }
-    ensures { result ≡ parts_in (listed prices.now quantities.now n) price level }
+pub(crate) fn parts_at(asks: &Asks, price: u32, level: Received) -> u32
+    requires { Parted asks.now.prices.now (length asks.now.prices.now) price level }
+    ensures { result ≡ parts_in (offers_in asks.now) price level }
 {
     let mut sum: u32 = 0;
-    for row in 0..n {
-        sum += part(prices[row], quantities[row], price, level);
+    for row in 0..asks.prices.len() {
+        sum += part(asks.prices[row], asks.quantities[row], price, level);
     }
     sum
 }
 
 // A row's part of its level, rounded down.
-pub(crate) fn part_at(prices: &[u32], quantities: &[u32], n: usize, x: u32, row: usize) -> u32
-    requires { RowLists prices.now quantities.now n × Positive quantities.now n × (row < n) }
-    ensures { (result ≡ share_down (listed prices.now quantities.now n) x row) × (result ≤ 200000) }
+pub(crate) fn part_at(asks: &Asks, x: u32, row: usize) -> u32
+    requires { Positive asks.now.quantities.now (length asks.now.prices.now) × (row < length asks.now.prices.now) }
+    ensures { (result ≡ share_down (offers_in asks.now) x row) × (result ≤ 200000) }
 {
-    let price = prices[row];
-    let level = level_at(prices, quantities, n, x, price);
-    part(price, quantities[row], price, level)
+    let price = asks.prices[row];
+    let level = level_at(asks, x, price);
+    part(price, asks.quantities[row], price, level)
 }

@@ -1,7 +1,10 @@
 // The order of spare tenths: the larger remainder, then the earlier stamp, then the lower resource, then the lower step.
-ghost use Rattle.std.specs.Prelude.{◌≡◌, cond, ◌&&◌, ◌≤◌, ◌<◌, eqb};
-ghost use Rattle.turns.specs.inner.Contending.{contender_of, ahead_of, decided_of};
+ghost use Rattle.std.specs.Prelude.{◌≡◌, ◌&&◌, ◌<◌, get_or, eqb};
+ghost use Rattle.columns.specs.inner.Sides.{rows_in, offers_in};
+ghost use Rattle.turns.specs.Order.{number_of};
+ghost use Rattle.turns.specs.inner.Contending.{contender_in, ahead_of, decided_of};
 
+use columns::rows::Rows;
 use reasons::share::Received;
 
 // What a row contends for a spare tenth of its level with.
@@ -13,75 +16,75 @@ pub struct Contender {
     pub step: u32,
 }
 
-// The first stands before the second.
+// What two contenders are told apart by: their remainders, their stamps, their resources or their steps.
+#[derive(Clone, Copy, PartialEq, Eq)]
+pub enum Key {
+    Remainder,
+    Stamp,
+    Resource,
+    Step,
+}
+
+impl Key {
+    // Its place among the keys, from 0.
+    pub fn number(self) -> u32
+        ensures { result ≡ number_of self }
+    {
+        match self {
+            Key::Remainder => 0,
+            Key::Stamp => 1,
+            Key::Resource => 2,
+            Key::Step => 3,
+        }
+    }
+}
+
+// The first stands before the second: of remainders the larger is first, of all other keys the lower.
 fn ahead(a: Contender, b: Contender) -> bool
     ensures { result ≡ ahead_of a b }
 {
-    if b.remainder != a.remainder {
-        return b.remainder < a.remainder;
-    }
-    if a.stamp != b.stamp {
-        return a.stamp < b.stamp;
-    }
-    if a.resource != b.resource {
-        return a.resource < b.resource;
-    }
-    a.step < b.step
+    (b.remainder, a.stamp, a.resource, a.step) < (a.remainder, b.stamp, b.resource, b.step)
 }
 
-// What decides between two contenders: 0 their remainders, 1 their stamps, 2 their resources, 3 their steps.
-pub(crate) fn decided(a: Contender, b: Contender) -> u32
+// What decides between two contenders: the first key in which they differ.
+pub(crate) fn decided(a: Contender, b: Contender) -> Key
     ensures { result ≡ decided_of a b }
 {
     if a.remainder != b.remainder {
-        return 0;
+        Key::Remainder
+    } else if a.stamp != b.stamp {
+        Key::Stamp
+    } else if a.resource != b.resource {
+        Key::Resource
+    } else {
+        Key::Step
     }
-    if a.stamp != b.stamp {
-        return 1;
-    }
-    if a.resource != b.resource {
-        return 2;
-    }
-    3
 }
 
 // What a row of a level contends with: what rounding down leaves of its part, and its other keys.
-pub(crate) fn contender_of(
-    quantity: u32,
-    stamp: u64,
-    resource: u32,
-    step: u32,
-    level: Received,
-) -> Contender
-    requires { (quantity ≤ 200000) × (0 < level.sum) }
-    ensures { result ≡ contender_of quantity stamp resource step level }
+pub(crate) fn contender_of(rows: &Rows, row: usize, level: Received) -> Contender
+    requires { (row < rows_in rows.now) × (0 < level.sum) }
+    ensures { result ≡ contender_in (offers_in rows.now) row level }
 {
+    let exact = u64::from(rows.asks.quantities[row]) * u64::from(level.amount);
     Contender {
-        remainder: quantity as u64 * level.amount as u64 % level.sum as u64,
-        stamp,
-        resource,
-        step,
+        remainder: exact % u64::from(level.sum),
+        stamp: rows.stamps[row],
+        resource: rows.resources[row],
+        step: rows.steps[row],
     }
 }
 
-// A row at the price that stands before the contender counts as one.
-pub(crate) fn one_before(
+// A row has the price, and stands before the contender.
+pub(crate) fn is_before(
+    rows: &Rows,
+    row: usize,
     price: u32,
-    quantity: u32,
-    stamp: u64,
-    resource: u32,
-    step: u32,
-    at: u32,
     level: Received,
     own: Contender,
-) -> u32
-    requires { (price ≡ at → 0 < level.sum) × (quantity ≤ 200000) }
-    ensures { (result ≡ cond (eqb price at && ahead_of (contender_of quantity stamp resource step level) own) 1 0) × (result ≤ 1) }
+) -> bool
+    requires { (row < rows_in rows.now) × (get_or rows.now.asks.prices.now row 0 ≡ price → 0 < level.sum) }
+    ensures { result ≡ (eqb (get_or rows.now.asks.prices.now row 0) price && ahead_of (contender_in (offers_in rows.now) row level) own) }
 {
-    if price == at {
-        if ahead(contender_of(quantity, stamp, resource, step, level), own) {
-            return 1;
-        }
-    }
-    0
+    rows.asks.prices[row] == price && ahead(contender_of(rows, row, level), own)
 }

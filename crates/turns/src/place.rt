@@ -1,94 +1,32 @@
 // Who stands at a place of a price level in the order of spare tenths.
 ghost use Rattle.std.specs.Prelude.{◌≡◌, ◌&&◌, ◌<◌, get_or, eqb};
 ghost use Rattle.auction.specs.Shares.{rank};
-ghost use Rattle.columns.specs.inner.Column.{rows_of};
-ghost use Rattle.levels.specs.inner.Rows.{RowLists};
-ghost use Rattle.shares.specs.inner.Out.{Ordered};
+ghost use Rattle.columns.specs.inner.Sides.{rows_in, offers_in};
 ghost use Rattle.turns.specs.Order.{placed, placed_at};
-ghost use Rattle.turns.specs.inner.Contending.{row_or};
 
 use crate::order::Contender;
 use crate::standing::{contender_at, rank_at};
-
-// Who stands at a place.
-#[derive(Clone, Copy)]
-pub enum Placed {
-    Held(Contender),
-    // no row of the price has that place
-    NoOne,
-}
+use columns::rows::Rows;
 
 // A row has the price, and as many of its level stand before it as the place says.
-fn stands_at(
-    prices: &[u32],
-    quantities: &[u32],
-    resources: &[u32],
-    stamps: &[u64],
-    steps: &[u32],
-    n: usize,
-    x: u32,
-    price: u32,
-    place: usize,
-    row: usize,
-) -> bool
-    requires { RowLists prices.now quantities.now n × Ordered quantities.now stamps.now resources.now steps.now n × (row < n) }
-    ensures { result ≡ (eqb (get_or prices.now row 0) price && eqb (rank (rows_of prices.now quantities.now stamps.now resources.now steps.now n) x row) place) }
+fn stands_at(rows: &Rows, x: u32, price: u32, place: usize, row: usize) -> bool
+    requires { row < rows_in rows.now }
+    ensures { result ≡ (eqb (get_or rows.now.asks.prices.now row 0) price && eqb (rank (offers_in rows.now) x row) place) }
 {
-    if prices[row] == price {
-        let rank = rank_at(prices, quantities, resources, stamps, steps, n, x, row);
-        return rank as usize == place;
-    }
-    false
+    rows.asks.prices[row] == price && rank_at(rows, x, row) as usize == place
 }
 
-// The row at a place of the level at a price, or n where there is none.
-pub(crate) fn row_at(
-    prices: &[u32],
-    quantities: &[u32],
-    resources: &[u32],
-    stamps: &[u64],
-    steps: &[u32],
-    n: usize,
-    x: u32,
-    price: u32,
-    place: usize,
-) -> usize
-    requires { RowLists prices.now quantities.now n × Ordered quantities.now stamps.now resources.now steps.now n }
-    ensures { result ≡ row_or n (placed (rows_of prices.now quantities.now stamps.now resources.now steps.now n) x price place) }
+// The row at a place of the level at a price, where one stands there.
+pub(crate) fn row_at(rows: &Rows, x: u32, price: u32, place: usize) -> Option<usize>
+    ensures { result ≡ placed (offers_in rows.now) x price place }
 {
-    let mut row: usize = 0;
-    while row < n {
-        if stands_at(
-            prices, quantities, resources, stamps, steps, n, x, price, place, row,
-        ) {
-            return row;
-        }
-        row += 1;
-    }
-    n
+    (0..rows.asks.prices.len()).find(|row| { stands_at(rows, x, price, place, *row) })
 }
 
 // Who stands at a place, from 0, of the level at a price.
-pub fn placed_at(
-    prices: &[u32],
-    quantities: &[u32],
-    resources: &[u32],
-    stamps: &[u64],
-    steps: &[u32],
-    n: usize,
-    x: u32,
-    price: u32,
-    place: usize,
-) -> Placed
-    requires { RowLists prices.now quantities.now n × Ordered quantities.now stamps.now resources.now steps.now n }
-    ensures { result ≡ placed_at (rows_of prices.now quantities.now stamps.now resources.now steps.now n) x price place }
+pub fn placed_at(rows: &Rows, x: u32, price: u32, place: usize) -> Option<Contender>
+    ensures { result ≡ placed_at (offers_in rows.now) x price place }
 {
-    let row = row_at(
-        prices, quantities, resources, stamps, steps, n, x, price, place,
-    );
-    if row < n {
-        Placed::Held(contender_at(prices, quantities, resources, stamps, steps, n, x, row))
-    } else {
-        Placed::NoOne
-    }
+    let row = row_at(rows, x, price, place)?;
+    Some(contender_at(rows, x, row))
 }

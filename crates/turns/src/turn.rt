@@ -1,40 +1,32 @@
 // A row's turn for the spare tenths of its level.
-ghost use Rattle.std.specs.Prelude.{◌≡◌, cond, ◌≤◌, ◌<◌, get_or, ltb};
+ghost use Rattle.std.specs.Prelude.{◌≡◌, ◌<◌, get_or};
 ghost use Rattle.auction.specs.Shares.{rank, spare_tenths};
-ghost use Rattle.columns.specs.inner.Column.{rows_of};
-ghost use Rattle.levels.specs.inner.Rows.{RowLists};
-ghost use Rattle.shares.specs.inner.Out.{Ordered};
+ghost use Rattle.columns.specs.inner.Sides.{rows_in, offers_in};
 ghost use Rattle.turns.specs.Turn.{rival_place, rival_row, rival_by, turn_at};
 
 use crate::level::part_at;
-use crate::order::{Contender, decided};
+use crate::order::{Contender, Key, decided};
 use crate::place::row_at;
 use crate::spare::{contenders_at, spares_at};
 use crate::standing::{contender_at, rank_at};
+use columns::rows::Rows;
 
-// The row at the other side of the cut, and what decides against it: 0 the remainders, 1 the stamps, 2 the resources, 3 the steps.
+// The row at the other side of the cut, and what decides against it.
 #[derive(Clone, Copy)]
-pub enum Rival {
-    Against(Contender, u32),
-    // no tenth is spare
-    NoRival,
+pub struct Rival {
+    pub contender: Contender,
+    pub decided: Key,
 }
 
-// A row's place, from 0, among how many that contend for how many spare tenths, what the row clears, and its rival.
+// A row's place, from 0, among how many that contend for how many spare tenths, what the row clears, and its rival, where
+// any tenth is spare.
 #[derive(Clone, Copy)]
 pub struct Turn {
     pub place: u32,
     pub contenders: u32,
     pub spares: u32,
     pub cleared: u32,
-    pub rival: Rival,
-}
-
-// One tenth for a place that is among the first so many.
-fn tenth(place: u32, spares: u32) -> u32
-    ensures { (result ≡ cond (ltb place spares) 1 0) × (result ≤ 1) }
-{
-    if place < spares { 1 } else { 0 }
+    pub rival: Option<Rival>,
 }
 
 // The place at the other side of the cut.
@@ -46,70 +38,42 @@ fn other_side(place: u32, spares: u32) -> u32
 }
 
 // A row against the one at the other side of the cut.
-fn rival_at(
-    prices: &[u32],
-    quantities: &[u32],
-    resources: &[u32],
-    stamps: &[u64],
-    steps: &[u32],
-    n: usize,
-    x: u32,
-    row: usize,
-    place: u32,
-    spares: u32,
-) -> Rival
-    requires row_lists { RowLists prices.now quantities.now n × Ordered quantities.now stamps.now resources.now steps.now n × (row < n) }
-    requires place_value { place ≡ rank (rows_of prices.now quantities.now stamps.now resources.now steps.now n) x row }
-    requires spares_value { spares ≡ spare_tenths (rows_of prices.now quantities.now stamps.now resources.now steps.now n) x (get_or prices.now row 0) }
-    ensures { result ≡ rival_by (rows_of prices.now quantities.now stamps.now resources.now steps.now n) x row (rival_row (rows_of prices.now quantities.now stamps.now resources.now steps.now n) x row) }
+fn rival_at(rows: &Rows, x: u32, row: usize, place: u32, spares: u32) -> Option<Rival>
+    requires row_in_bounds { row < rows_in rows.now }
+    requires place_value { place ≡ rank (offers_in rows.now) x row }
+    requires spares_value { spares ≡ spare_tenths (offers_in rows.now) x (get_or rows.now.asks.prices.now row 0) }
+    ensures { result ≡ rival_by (offers_in rows.now) x row (rival_row (offers_in rows.now) x row) }
 {
     if spares == 0 {
-        return Rival::NoRival;
+        return None;
     }
     let other = row_at(
-        prices,
-        quantities,
-        resources,
-        stamps,
-        steps,
-        n,
+        rows,
         x,
-        prices[row],
+        rows.asks.prices[row],
         other_side(place, spares) as usize,
-    );
-    if other < n {
-        let own = contender_at(prices, quantities, resources, stamps, steps, n, x, row);
-        let rival = contender_at(prices, quantities, resources, stamps, steps, n, x, other);
-        Rival::Against(rival, decided(own, rival))
-    } else {
-        Rival::NoRival
-    }
+    )?;
+    let own = contender_at(rows, x, row);
+    let contender = contender_at(rows, x, other);
+    Some(Rival {
+        contender,
+        decided: decided(own, contender),
+    })
 }
 
 // A row's turn.
-pub fn turn_at(
-    prices: &[u32],
-    quantities: &[u32],
-    resources: &[u32],
-    stamps: &[u64],
-    steps: &[u32],
-    n: usize,
-    x: u32,
-    row: usize,
-) -> Turn
-    requires { RowLists prices.now quantities.now n × Ordered quantities.now stamps.now resources.now steps.now n × (row < n) }
-    ensures { result ≡ turn_at (rows_of prices.now quantities.now stamps.now resources.now steps.now n) x row }
+pub fn turn_at(rows: &Rows, x: u32, row: usize) -> Turn
+    requires { row < rows_in rows.now }
+    ensures { result ≡ turn_at (offers_in rows.now) x row }
 {
-    let price = prices[row];
-    let place = rank_at(prices, quantities, resources, stamps, steps, n, x, row);
-    let spares = spares_at(prices, quantities, n, x, price);
+    let price = rows.asks.prices[row];
+    let place = rank_at(rows, x, row);
+    let spares = spares_at(&rows.asks, x, price);
     Turn {
         place,
-        contenders: contenders_at(prices, n, price),
+        contenders: contenders_at(rows.asks.prices, price),
         spares,
-        cleared: part_at(prices, quantities, n, x, row) + tenth(place, spares),
-        rival: rival_at(
-            prices, quantities, resources, stamps, steps, n, x, row, place, spares,
-        ),
+        cleared: part_at(&rows.asks, x, row) + u32::from(place < spares),
+        rival: rival_at(rows, x, row, place, spares),
     }
 }

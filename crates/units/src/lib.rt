@@ -17,9 +17,8 @@ pub fn daily(amount: DollarsPerMwYear, quarters: u32, outage: u32) -> CentsPerMw
     requires { (amount.0 ≤ 1000000) × (quarters ≤ 7) × (outage ≤ 5000) }
     ensures { (result.0 ≡ daily_cents (amount.0 * quarters) outage) × (result.0 ≤ 958904) }
 {
-    let exact = amount.0 as u64 * quarters as u64 * 100 * 10000;
-    let over = 4 * 365 * (10000 - outage as u64);
+    let exact = u64::from(amount.0) * u64::from(quarters) * 100 * 10000;
+    let over = 4 * 365 * (10000 - u64::from(outage));
     let nearest = (2 * exact + over) / (2 * over);
-    let cents = nearest as u32;
-    CentsPerMwDay(cents)
+    CentsPerMwDay(nearest as u32)
 }

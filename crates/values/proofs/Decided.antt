@@ -17,8 +17,9 @@ use Rattle.values.specs.Place.{offer_of}
 use Rattle.values.specs.declared.Value.{Value}
 use Rattle.values.specs.declared.head.Parameters.{Parameters}
 use Rattle.values.specs.declared.place.Offer.{Offer}
-use Rattle.values.specs.declared.Verdict.{Verdict}
-use Rattle.values.proofs.and_then.Reads as and_then
+use Rattle.values.specs.declared.refusal.Refusal.{Refusal}
+use Rattle.values.proofs.refusal.Refusal.number.Reads as number
+use Rattle.values.proofs.refusal.Refusal.place.Reads as place
 use Rattle.values.proofs.value_at.Reads as value-at
 use Rattle.values.proofs.number_held.Reads as number-held
 use Rattle.values.proofs.least_of.Reads as least-of
@@ -32,10 +33,15 @@ pub number-held-decided : (v : Value) (r s : ℕ)
     → number-held.Post tt (v, tt) r (v, tt) → number-held.Post tt (v, tt) s (v, tt) → r ≡ s
 number-held-decided v r s e f = e ∙ sym f
 
--- the first fault of two tests, by the contract of `and_then`
-pub and-then-decided : (test next r s : Verdict)
-    → and_then.Post tt (test, (next, tt)) r (test, (next, tt)) → and_then.Post tt (test, (next, tt)) s (test, (next, tt)) → r ≡ s
-and-then-decided test next r s e f = e ∙ sym f
+-- the number of a refusal, by the contract of `number`
+pub refusal-number-decided : (refusal : Refusal) (r s : ℕ)
+    → number.Post tt (refusal, tt) r (refusal, tt) → number.Post tt (refusal, tt) s (refusal, tt) → r ≡ s
+refusal-number-decided refusal r s e f = e ∙ sym f
+
+-- its place, by the contract of `place`
+pub refusal-place-decided : (refusal : Refusal) (r s : ℕ)
+    → place.Post tt (refusal, tt) r (refusal, tt) → place.Post tt (refusal, tt) s (refusal, tt) → r ≡ s
+refusal-place-decided refusal r s e f = e ∙ sym f
 
 -- the least that is committed, by the contract of `least_of`
 pub least-of-decided : (v : Value) (r s : ℕ)

@@ -1,2 +1,3 @@
 pub mod Firsts
+pub mod Table
 pub mod Decided

@@ -6,7 +6,7 @@ use crate::{Value, value_at};
 use block::bytes::u16_at;
 
 // The parameters of a book, each but the year given or missing.
-#[derive(Clone, Copy)]
+#[derive(Clone, Copy, PartialEq, Eq)]
 pub struct Parameters {
     // the delivery year's first calendar year
     pub year: u32,

@@ -4,37 +4,21 @@
 
 pub mod head;
 pub mod place;
+mod refusal;
 
 ghost use Rattle.std.specs.Prelude.{◌≡◌, ◌+◌, ◌/◌, ◌%◌, ◌≤◌, ◌<◌, length, eqb};
 ghost use Rattle.block.specs.Bytes.{u32_at};
 ghost use Rattle.values.specs.Values.{value_of, held};
 ghost use Rattle.values.specs.inner.Values.{least_of};
-ghost use Rattle.values.specs.Refusals.{and_then};
 
 use block::bytes::u32_at;
+pub use refusal::Refusal;
 
 // A value that the book can leave out. What is missing is no number.
-#[derive(Clone, Copy)]
+#[derive(Clone, Copy, PartialEq, Eq)]
 pub enum Value {
     Given(u32),
     Missing,
-}
-
-// What a test of a book answers: it passed, or the refusal's number and place.
-#[derive(Clone, Copy)]
-pub enum Verdict {
-    Passed,
-    Refused(u32, u32),
-}
-
-// The first fault of two tests: the second's where the first passed.
-pub fn and_then(test: Verdict, next: Verdict) -> Verdict
-    ensures { result ≡ and_then test next }
-{
-    match test {
-        Verdict::Passed => next,
-        Verdict::Refused(number, place) => Verdict::Refused(number, place),
-    }
 }
 
 // The value at a place of a part, given where the bit of this weight is set in the marks. The bytes are read in either case,

@@ -6,7 +6,7 @@ use crate::{Value, value_at};
 use block::bytes::{u32_at, u64_at};
 
 // The offer of a row.
-#[derive(Clone, Copy)]
+#[derive(Clone, Copy, PartialEq, Eq)]
 pub struct Offer {
     pub resource: u32,
     pub seller: u32,

@@ -12,29 +12,31 @@ use layout::reader::own_bytes;
 use std::fs::File;
 use std::rt::Files;
 use std::{env, io};
-use values::Verdict;
+use values::Refusal;
 
 // How many rows the reader hands back, from row 0 on until the first empty part: all that the book states, and none of one
 // that is refused by 1 to 3.
 fn rows_handed(book: &[u8]) -> usize
     ensures { result ≡ rows_handed (form_fault book.now) (offer_count book.now) }
 {
-    let mut row = 0;
-    while row < 601 {
-        let part = own_bytes(book, row);
-        if part.len() == 0 {
+    for row in 0..600 {
+        if own_bytes(book, row).is_empty() {
             return row;
         }
-        row += 1;
     }
-    row
+    600
 }
 
 // Writes one word where the book passed, and else another with the refusal's number and place.
-fn write_verdict(rt: &impl Print, v: Verdict, passed: &str, refused: &str) -> io::Result<()> {
+fn write_verdict(
+    rt: &impl Print,
+    v: Result<(), Refusal>,
+    passed: &str,
+    refused: &str,
+) -> io::Result<()> {
     match v {
-        Verdict::Passed => print!(rt; "{passed}"),
-        Verdict::Refused(number, place) => print!(rt; "{refused} {number} {place}"),
+        Ok(()) => print!(rt; "{passed}"),
+        Err(refusal) => print!(rt; "{refused} {refusal}"),
     }
 }
 

@@ -4,7 +4,6 @@ use mathlib.Core.Path.{◌≡◌, sym, ◌∙◌}
 use mathlib.Core.Bool.{Bool}
 use Prim.Native.Nat.{ℕ}
 use Rattle.values.specs.declared.Value.{Value}
-use Rattle.pricing.specs.declared.ClearingPrice.{ClearingPrice}
 use Rattle.wording.specs.declared.word.Told.{Told}
 use Rattle.wording.specs.inner.Told.{Tells}
 use Rattle.wording.proofs.word.either.Reads as either
@@ -15,6 +14,7 @@ use Rattle.wording.proofs.word.yearly.Reads as yearly
 use Rattle.wording.proofs.word.margined.Reads as margined
 use Rattle.wording.proofs.word.cents_of.Reads as cents-of
 use Rattle.wording.proofs.word.priced.Reads as priced
+use Rattle.pricing.specs.Price.{ClearingPrice}
 
 -- words and a number that are told leave one value
 told_same : {word number : ℕ} (r s : Told) → Tells word number r → Tells word number s → r ≡ s

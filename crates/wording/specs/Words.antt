@@ -1,10 +1,9 @@
 -- Which of a form's words fit: the parts of a choice are counted from 0. In order: tests; values that are given or missing; prices.
 -- Assumes nothing.
-use Rattle.std.specs.Prelude.{ℕ, Bool, true, false, cond, eqb}
+use Rattle.std.specs.Prelude.{ℕ, Bool, true, false, cond, eqb, Some, None}
 use Rattle.values.specs.declared.Value.{Value}
 use Rattle.values.specs.declared.Value.TheVariants.{Given, Missing}
-use Rattle.pricing.specs.declared.ClearingPrice.{ClearingPrice}
-use Rattle.pricing.specs.declared.ClearingPrice.TheVariants.{Price, NoPrice}
+use Rattle.pricing.specs.Price.{ClearingPrice}
 
 -- the number of what is not there: no form shows it
 abbrev pub absent : ℕ
@@ -39,10 +38,10 @@ margined needed (Given number) = cond (eqb number 0) 2 3
 margined needed Missing = as_one needed
 
 abbrev pub cents_of : ClearingPrice → ℕ
-cents_of (Price cents) = cents.0
-cents_of NoPrice = absent
+cents_of (Some cents) = cents.0
+cents_of None = absent
 
 -- a price: over zero, zero, or none
 abbrev pub price_word : ClearingPrice → ℕ
-price_word (Price cents) = as_one (eqb cents.0 0)
-price_word NoPrice = 2
+price_word (Some cents) = as_one (eqb cents.0 0)
+price_word None = 2

@@ -4,17 +4,17 @@ ghost use Rattle.values.specs.Values.{held};
 ghost use Rattle.wording.specs.Words.{first_true, given, valued, yearly, margined, cents_of, price_word};
 ghost use Rattle.wording.specs.inner.Told.{Tells};
 
-use pricing::ClearingPrice;
-use values::Value;
+use units::CentsPerMwDay;
+use values::{Value, number_held};
 
 // The words for a value and its number, which they show or not.
-#[derive(Clone, Copy)]
+#[derive(Clone, Copy, PartialEq, Eq)]
 pub struct Told {
     pub word: u64,
     pub number: u64,
 }
 
-// One of two numbers, by a test.
+// One of two numbers, by a test. A function, since in the list of a form an `if` takes five lines and its call one.
 pub fn either(test: bool, yes: u64, no: u64) -> u64
     ensures { result ≡ cond test yes no }
 {
@@ -25,12 +25,10 @@ pub fn either(test: bool, yes: u64, no: u64) -> u64
 pub fn first_true(first: bool, second: bool) -> u64
     ensures { result ≡ first_true first second }
 {
-    if first {
-        0
-    } else if second {
-        1
-    } else {
-        2
+    match (first, second) {
+        (true, _) => 0,
+        (false, true) => 1,
+        (false, false) => 2,
     }
 }
 
@@ -38,25 +36,21 @@ pub fn first_true(first: bool, second: bool) -> u64
 pub fn given(v: Value) -> bool
     ensures { result ≡ given v }
 {
-    match v {
-        Value::Given(_) => true,
-        Value::Missing => false,
-    }
+    matches!(v, Value::Given(_))
 }
 
 // A value: missing, zero, or another number.
 pub fn valued(v: Value) -> Told
     ensures { Tells (valued v) (held v) result }
 {
-    match v {
-        Value::Given(number) => Told {
-            word: either(number == 0, 1, 2),
-            number: number as u64,
-        },
-        Value::Missing => Told {
-            word: 0,
-            number: 4294967295,
-        },
+    let word = match v {
+        Value::Missing => 0,
+        Value::Given(0) => 1,
+        Value::Given(_) => 2,
+    };
+    Told {
+        word,
+        number: u64::from(number_held(v)),
     }
 }
 
@@ -64,15 +58,15 @@ pub fn valued(v: Value) -> Told
 pub fn yearly(v: Value) -> Told
     ensures { Tells (yearly v) (held v) result }
 {
-    match v {
-        Value::Given(number) => Told {
-            word: either(number == 0, 1, either(number == 1, 2, 3)),
-            number: number as u64,
-        },
-        Value::Missing => Told {
-            word: 0,
-            number: 4294967295,
-        },
+    let word = match v {
+        Value::Missing => 0,
+        Value::Given(0) => 1,
+        Value::Given(1) => 2,
+        Value::Given(_) => 3,
+    };
+    Told {
+        word,
+        number: u64::from(number_held(v)),
     }
 }
 
@@ -80,40 +74,35 @@ pub fn yearly(v: Value) -> Told
 pub fn margined(needed: bool, v: Value) -> Told
     ensures { Tells (margined needed v) (held v) result }
 {
-    match v {
-        Value::Given(number) => Told {
-            word: either(number == 0, 2, 3),
-            number: number as u64,
-        },
-        Value::Missing => Told {
-            word: needed as u64,
-            number: 4294967295,
-        },
+    let word = match v {
+        Value::Missing => u64::from(needed),
+        Value::Given(0) => 2,
+        Value::Given(_) => 3,
+    };
+    Told {
+        word,
+        number: u64::from(number_held(v)),
     }
 }
 
 // A price in cents, and all ones where there is none.
-pub fn cents_of(price: ClearingPrice) -> u64
+pub fn cents_of(price: Option<CentsPerMwDay>) -> u64
     ensures { result ≡ cents_of price }
 {
-    match price {
-        ClearingPrice::Price(cents) => cents.0 as u64,
-        ClearingPrice::NoPrice => 18446744073709551615,
-    }
+    price.map_or(u64::MAX, |cents| u64::from(cents.0))
 }
 
 // A price: over zero, zero, or none.
-pub fn priced(price: ClearingPrice) -> Told
+pub fn priced(price: Option<CentsPerMwDay>) -> Told
     ensures { Tells (price_word price) (cents_of price) result }
 {
-    match price {
-        ClearingPrice::Price(cents) => Told {
-            word: (cents.0 == 0) as u64,
-            number: cents.0 as u64,
-        },
-        ClearingPrice::NoPrice => Told {
-            word: 2,
-            number: 18446744073709551615,
-        },
+    let word = match price {
+        Some(CentsPerMwDay(0)) => 1,
+        Some(_) => 0,
+        None => 2,
+    };
+    Told {
+        word,
+        number: cents_of(price),
     }
 }

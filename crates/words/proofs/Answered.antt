@@ -3,20 +3,21 @@
 use mathlib.Core.Path.{◌≡◌, refl, ap}
 use Prim.Native.Nat.{ℕ}
 use native.Mathlib.Omega.{arith}
-use Rattle.values.specs.declared.Verdict.{Verdict}
-use Rattle.values.specs.declared.Verdict.TheVariants.{Passed, Refused}
+use Rattle.std.specs.Prelude.{Err, Ok}
 use Rattle.plain.specs.declared.structs.OzpText.{OzpText}
 use Rattle.words.specs.Texts.{text_given, text_refused, text_by}
+use Rattle.values.specs.Refusals.{Verdict, no_fault, number_of, place_of}
+use Rattle.values.proofs.Table.{refusal-told}
+use Rattle.values.specs.declared.refusal.Refusal.{Refusal}
 
 -- what is refused by the answer is refused
-pub refused-by : (v : Verdict) (n number place : ℕ) → text_by v (text_given n) ≡ text_refused number place → v ≡ Refused number place
-refused-by Passed n number place e = absurd (omega (arith, ap (λ (t : OzpText). t.kind) e))
-refused-by (Refused m p) n number place e =
-    let f : m ≡ number = ap (λ (t : OzpText). t.number) e in
-    let g : p ≡ place = ap (λ (t : OzpText). t.place) e in
-    rw (f, g) refl
+pub refused-by : (v : Verdict) (n : ℕ) (refusal : Refusal)
+    → text_by v (text_given n) ≡ text_refused (number_of refusal) (place_of refusal) → v ≡ Err refusal
+refused-by (Ok u) n refusal e = absurd (omega (arith, ap (λ (t : OzpText). t.kind) e))
+refused-by (Err other) n refusal e =
+    ap Err (refusal-told other refusal (ap (λ (t : OzpText). t.number) e) (ap (λ (t : OzpText). t.place) e))
 
 -- and what is answered passed
-pub passed-by : (v : Verdict) (n : ℕ) → (text_by v (text_given n)).kind ≡ 1 → v ≡ Passed
-passed-by Passed n e = refl
-passed-by (Refused m p) n e = absurd (omega (arith, e))
+pub passed-by : (v : Verdict) (n : ℕ) → (text_by v (text_given n)).kind ≡ 1 → v ≡ no_fault
+passed-by (Ok u) n e = refl
+passed-by (Err m) n e = absurd (omega (arith, e))

@@ -2,10 +2,8 @@
 --
 -- In order: what is answered of a text; whether the room is too small; what a call answers and leaves in the room.
 -- Assumes nothing.
-use Rattle.std.specs.Prelude.{ℕ, ◌≡◌, List, [], ◌∷◌, ◌++◌, leb, length, drop}
-use Rattle.values.specs.Refusals.{unless, short_room, buffer_by}
-use Rattle.values.specs.declared.Verdict.{Verdict}
-use Rattle.values.specs.declared.Verdict.TheVariants.{Passed, Refused}
+use Rattle.std.specs.Prelude.{ℕ, ◌≡◌, List, [], ◌∷◌, ◌++◌, leb, length, drop, Err, Ok}
+use Rattle.values.specs.Refusals.{unless, short_room, buffer_by, number_of, place_of, Verdict}
 use Rattle.plain.specs.Structs.{no_value, no_amount}
 use Rattle.plain.specs.declared.structs.OzpText.{OzpText}
 
@@ -25,8 +23,8 @@ text_of [] = no_text
 text_of (byte ∷ bytes) = text_given (length (byte ∷ bytes))
 
 abbrev pub text_by : Verdict → OzpText → OzpText
-text_by Passed text = text
-text_by (Refused number place) text = text_refused number place
+text_by (Ok u) text = text
+text_by (Err refusal) text = text_refused (number_of refusal) (place_of refusal)
 
 -- 20: the room is too small for the text
 abbrev pub room_fault : List ℕ → List ℕ → Verdict

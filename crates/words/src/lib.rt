@@ -2,11 +2,19 @@
 #![tactic(auto)]
 
 ghost use Rattle.std.specs.Prelude.{◌≡◌, ◌≤◌, ◌<◌};
-ghost use Rattle.words.specs.Texts.{text_given, text_refused, no_text, Told};
+ghost use Rattle.words.specs.Texts.{text_given, text_refused, Told};
 ghost use Rattle.words.specs.Words.{bytes_of, words_of};
 
 use plain::structs::{NO_AMOUNT, NO_VALUE, OzpText};
 use text::put_bytes;
+
+// No text.
+const NO_TEXT: OzpText = OzpText {
+    bytes: 0,
+    kind: 2,
+    number: NO_VALUE,
+    place: NO_VALUE,
+};
 
 // A text of so many bytes.
 pub fn given(bytes: u64) -> OzpText
@@ -15,20 +23,7 @@ pub fn given(bytes: u64) -> OzpText
     OzpText {
         bytes,
         kind: 1,
-        number: NO_VALUE,
-        place: NO_VALUE,
-    }
-}
-
-// No text.
-fn no_text() -> OzpText
-    ensures { result ≡ no_text }
-{
-    OzpText {
-        bytes: 0,
-        kind: 2,
-        number: NO_VALUE,
-        place: NO_VALUE,
+        ..NO_TEXT
     }
 }
 
@@ -49,7 +44,7 @@ pub fn put_text(room: &mut [u8], text: &[u8]) -> OzpText
     ensures { Told text.now room.old result room.new }
 {
     if text.len() == 0 {
-        return no_text();
+        return NO_TEXT;
     }
     if room.len() < text.len() {
         return refused(20, 0);
@@ -58,7 +53,8 @@ pub fn put_text(room: &mut [u8], text: &[u8]) -> OzpText
     given(end as u64)
 }
 
-// What refusals 1 to 5 say, of a book's length, its blocks and its parameters.
+// What refusals 1 to 5 say, of a book's length, its blocks and its parameters. Each is put by a call of its own and not out of a table:
+// so the compiler knows how long each text is, and the library asks for no more of C than memcpy and memset, as the header says.
 fn book_words(number: u32, room: &mut [u8]) -> OzpText
     requires { number ≤ 5 }
     ensures { Told (bytes_of (words_of number)) room.old result room.new }
@@ -75,7 +71,7 @@ fn book_words(number: u32, room: &mut [u8]) -> OzpText
         ),
         4 => put_text(room, b"a parameter is missing; the field"),
         5 => put_text(room, b"a parameter is out of range; the field"),
-        _ => no_text(),
+        _ => NO_TEXT,
     }
 }
 
@@ -116,6 +112,6 @@ pub fn words(number: u32, room: &mut [u8]) -> OzpText
     match number {
         19 => put_text(room, b"more than 600 rows; 0"),
         20 => put_text(room, b"the room lent is too small; 0"),
-        _ => no_text(),
+        _ => NO_TEXT,
     }
 }

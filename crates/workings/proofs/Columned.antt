@@ -14,23 +14,21 @@ use Rattle.curve.specs.Shape.{Shaped}
 use Rattle.curve.specs.Price.{demand_of}
 use Rattle.curve.specs.declared.Curve.{Curve}
 use Rattle.levels.specs.Stop.{stop_level}
-use Rattle.levels.specs.inner.Rows.{RowLists, listed}
+use Rattle.levels.specs.inner.Asks.{offers_in as asked_in}
 use Rattle.levels.specs.inner.Stop.{StopsAt}
 use Rattle.levels.specs.declared.level.Level.{Level}
-use Rattle.pricing.specs.Price.{as_price}
+use Rattle.pricing.specs.Price.{as_price, ClearingPrice}
 use Rattle.pricing.specs.inner.Price.{price_at}
-use Rattle.pricing.specs.declared.ClearingPrice.{ClearingPrice}
 use Rattle.pricing.proofs.Agree.{price-agrees}
-use Rattle.columns.specs.inner.Column.{rows_of}
+use Rattle.columns.specs.inner.Sides.{offers_in}
+use Rattle.columns.specs.declared.rows.Rows.{Rows}
 use Rattle.reasons.specs.Stop.{level_at, tenth_at, next_at, stop_at}
-use Rattle.reasons.specs.Share.{share_at, row_share_at}
+use Rattle.reasons.specs.Share.{share_at, row_share_at, RowShare}
 use Rattle.reasons.specs.declared.stop.Stop.{Stop}
-use Rattle.reasons.specs.declared.share.RowShare.{RowShare}
 use Rattle.ladder.specs.Ladder.{rung_of, rung_at, ladder_from, ladder_at}
 use Rattle.ladder.specs.declared.rung.Ladder.{Ladder}
-use Rattle.workings.specs.Works.{contest_at}
+use Rattle.workings.specs.Works.{contest_at, WorkedRow}
 use Rattle.workings.specs.inner.Works.{worked_row_by, works_at}
-use Rattle.workings.specs.declared.row.WorkedRow.{WorkedRow}
 use Rattle.workings.specs.declared.spares.Contest.{Contest}
 
 -- ---- the level at which the total stops
@@ -65,12 +63,12 @@ module _ (c : Curve) (o : Offers) (stop : Stop) (e : stop ≡ stop_at c o) where
 
 -- ---- the workings of columns
 
-module _ (prices quantities stamps resources steps : List ℕ) (n : ℕ) where
+module _ (rows : Rows) where
   abbrev few : Offers
-  few = listed prices quantities n
+  few = asked_in rows.asks
 
   abbrev all : Offers
-  all = rows_of prices quantities stamps resources steps n
+  all = offers_in rows
 
   -- where a total stops, the price, a row's share and the ladder look at no stamp, no resource number and no step
   total-listed : (c : Curve) → cleared_total (demand_of c) few ≡ cleared_total (demand_of c) all
@@ -104,17 +102,16 @@ module _ (prices quantities stamps resources steps : List ℕ) (n : ℕ) where
     cleared-total : x ≡ cleared_total (demand_of c) all
     cleared-total = stop-total c few stop e ∙ total-listed c
 
-    sold-at : (price : ClearingPrice) → RowLists prices quantities n → price ≡ price_at (demand_of stop.curve) stop.level
+    sold-at : (price : ClearingPrice) → price ≡ price_at (demand_of stop.curve) stop.level
         → price ≡ as_price (clearing_price (demand_of c) all)
-    sold-at price rows f =
+    sold-at price f =
         f
         ∙ ap₂ (λ (d : Curve) (l : Level). price_at (demand_of d) l) (stop-own c few stop e) (ap (λ (s : Stop). s.level) e)
-        ∙ price-agrees (demand_of c) few (stop_at c few).level rows.cheap (stops-there c few)
+        ∙ price-agrees (demand_of c) few (stop_at c few).level rows.asks.listed.cheap (stops-there c few)
         ∙ ap as_price (price-listed c)
 
     pub works-columns : (price : ClearingPrice) (share : RowShare) (worked : WorkedRow) (ladder : Ladder) (contest : Contest)
         (leasts : List ℕ) (row rung place : ℕ)
-        → RowLists prices quantities n
         → price ≡ price_at (demand_of stop.curve) stop.level
         → share ≡ row_share_at few x row
         → worked ≡ worked_row_by all x price leasts row
@@ -123,8 +120,8 @@ module _ (prices quantities stamps resources steps : List ℕ) (n : ℕ) where
         → record { stop = stop; price = price; share = share; row = worked; ladder = ladder; contest = contest }
         ≡ works_at c all leasts row rung place
     unfolding works_at
-    works-columns price share worked ladder contest leasts row rung place rows f g h k m =
-        let sold = sold-at price rows f in
+    works-columns price share worked ladder contest leasts row rung place f g h k m =
+        let sold = sold-at price f in
         let at : stop.level.price ≡ stop_level all (cleared_total (demand_of c) all) =
         stop-price c few stop e ∙ level-listed x ∙ ap (stop_level all) cleared-total in
         λ i.

@@ -9,6 +9,7 @@ use Prim.Native.Nat.{ℕ, ◌-◌, ◌<◌}
 use lib.ListN.{length, get_or}
 use native.Mathlib.Omega.{arith}
 use borrow.Author.Tests.{lt-ltb, le-ltb}
+use Rattle.std.specs.Prelude.{Some}
 use Rattle.laws.proofs.Cases.{by_order, cond-true, cond-false}
 use Rattle.auction.specs.Offers.{Offers}
 use Rattle.auction.specs.Settlement.{mills}
@@ -26,7 +27,6 @@ use Rattle.sale.proofs.Payments.{quoted-as_price}
 use Rattle.sale.proofs.Sales.{columns-offers, leasts-row}
 use Rattle.workings.specs.Works.{row_works, worked_row, works_of}
 use Rattle.workings.specs.inner.Works.{row_works_by, worked_row_by, works_at}
-use Rattle.workings.specs.declared.row.WorkedRow.TheVariants.{Row}
 use Rattle.workings.specs.declared.works.Works.{Works}
 
 module _ (c : Contents) (leasts : List ℕ) (row : ℕ) where
@@ -53,7 +53,7 @@ module _ (c : Contents) (leasts : List ℕ) (row : ℕ) where
       (λ l. let t = le-ltb row (length c.offers) l in cond-false _ _ _ t ∙ sym (cond-false _ _ _ t))
       (λ l.
       let t = lt-ltb row (length c.offers) l in
-      cond-true _ _ _ t ∙ ap Row (row-own (e l)) ∙ sym (cond-true _ _ _ t))
+      cond-true _ _ _ t ∙ ap Some (row-own (e l)) ∙ sym (cond-true _ _ _ t))
 
   works-own : (rung place : ℕ) → (row < length c.offers → get_or leasts row 0 ≡ row_least c.offers row)
       → works_at (region_curve c.parameters) (offers_of c.offers) leasts row rung place ≡ works_of c row rung place

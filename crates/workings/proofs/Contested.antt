@@ -5,21 +5,24 @@
 -- Assumes nothing.
 use mathlib.Core.Path.{◌≡◌, refl, sym, ap, ◌∙◌}
 use mathlib.Core.Bool.{false, ◌&&◌}
-use mathlib.Core.List.{List, []}
+use mathlib.Core.List.{[]}
 use Prim.Native.Nat.{ℕ, ◌≤◌, ◌<◌}
 use native.Mathlib.Omega.{arith}
 use lib.Dec.{eqb}
 use borrow.Author.Tests.{eqb-true, eq-eqb}
+use Rattle.std.specs.Prelude.{None}
 use Rattle.laws.proofs.Cases.{by-test, and_left, and_right}
 use Rattle.laws.proofs.Counts.{count_where-less}
-use Rattle.auction.specs.Offers.{Offers, supply_below, level_sum}
-use Rattle.auction.specs.Shares.{level_amount, weighted, share_down, spare_tenths, ahead, rank}
+use Rattle.auction.specs.Offers.{Offers}
+use Rattle.auction.specs.Shares.{spare_tenths, ahead, rank}
 use Rattle.auction.proofs.Ahead.{ahead-order}
-use Rattle.columns.specs.inner.Column.{rows_of}
+use Rattle.columns.specs.inner.Sides.{rows_in, offers_in}
+use Rattle.columns.specs.declared.rows.Rows.{Rows}
+use Rattle.levels.specs.inner.Asks.{offers_in as asked_in}
 use Rattle.levels.specs.inner.Rows.{listed}
-use Rattle.turns.specs.Order.{contenders, placed, held_by, placed_at}
-use Rattle.turns.specs.declared.place.Placed.{Placed}
-use Rattle.turns.specs.declared.place.Placed.TheVariants.{NoOne}
+use Rattle.turns.proofs.Leveled.{spares-rows}
+use Rattle.turns.proofs.Turning.{contenders-rows}
+use Rattle.turns.specs.Order.{contenders, placed, held_by, placed_at, Placed}
 use Rattle.turns.proofs.Firsts.{first-none}
 use Rattle.workings.specs.Works.{contest_at}
 
@@ -41,28 +44,16 @@ module _ (o : Offers) (x : ℕ) where
       absurd (omega (arith, rank-within i m, eqb-true (rank o x i) k (and_right (eqb (o.price i) p) _ t), ap (contenders o) at)))
       (λ t. t)
 
-  pub no-one-past : (p k : ℕ) → contenders o p ≤ k → NoOne ≡ placed_at o x p k
+  pub no-one-past : (p k : ℕ) → contenders o p ≤ k → None ≡ placed_at o x p k
   unfolding placed_at placed
   no-one-past p k l =
       sym (ap (held_by o x)
       (first-none (λ i. eqb (o.price i) p && eqb (rank o x i) k) o.count (λ i m. not-placed p k i l m)))
 
--- the spare tenths and the contenders look at prices and quantities alone
-module _ (prices quantities stamps resources steps : List ℕ) (n : ℕ) where
-  abbrev all : Offers
-  all = rows_of prices quantities stamps resources steps n
-
-  pub contenders-listed : (p : ℕ) → contenders (listed prices [] n) p ≡ contenders all p
-  unfolding contenders
-  contenders-listed p = refl
-
-  spares-listed : (x p : ℕ) → spare_tenths (listed prices quantities n) x p ≡ spare_tenths all x p
-  unfolding spare_tenths level_amount share_down weighted level_sum supply_below
-  spares-listed x p = refl
-
-  pub contest-is : (x p place spares many : ℕ) (who : Placed) → spares ≡ spare_tenths (listed prices quantities n) x p
-      → many ≡ contenders (listed prices [] n) p → who ≡ placed_at all x p place
-      → record { spares = spares; contenders = many; placed = who } ≡ contest_at all x p place
-  unfolding contest_at
-  contest-is x p place spares many who e f g =
-      λ i. record { spares = (e ∙ spares-listed x p) i; contenders = (f ∙ contenders-listed p) i; placed = g i }
+-- the contest of a level: the spare tenths and the contenders look at prices and quantities alone
+pub contest-is : (rows : Rows) (x p place spares many : ℕ) (who : Placed) → spares ≡ spare_tenths (asked_in rows.asks) x p
+    → many ≡ contenders (listed rows.asks.prices.now [] (rows_in rows)) p → who ≡ placed_at (offers_in rows) x p place
+    → record { spares = spares; contenders = many; placed = who } ≡ contest_at (offers_in rows) x p place
+unfolding contest_at
+contest-is rows x p place spares many who e f g =
+    λ i. record { spares = (e ∙ spares-rows rows x p) i; contenders = (f ∙ contenders-rows rows p) i; placed = g i }

@@ -9,8 +9,7 @@ use denote.Ref.{Bor}
 use Rattle.laws.proofs.Answers.{same_answer}
 use Rattle.layout.specs.Read.{contents_of}
 use Rattle.book.specs.Faults.{first_fault}
-use Rattle.workings.specs.Works.{works_of, worked_by}
-use Rattle.workings.specs.declared.works.WorksAnswer.{WorksAnswer}
+use Rattle.workings.specs.Works.{works_of, worked_by, WorksAnswer}
 use Rattle.workings.proofs.works.workings.Reads as workings
 
 module _ (κs : Lfts 1) (book other : Bor (List ℕ)) (same : book.now ≡ other.now) where

@@ -7,18 +7,18 @@ use mathlib.Core.List.{List}
 use Prim.Native.Nat.{ℕ, ◌-◌, ◌≤◌, ◌<◌}
 use lib.ListN.{get_or}
 use borrow.Author.Tests.{lt-ltb, le-ltb}
+use Rattle.std.specs.Prelude.{Some, None}
 use Rattle.laws.proofs.Cases.{cond-true, cond-false}
 use Rattle.auction.specs.Offers.{Offers}
 use Rattle.auction.specs.Shares.{cleared}
 use Rattle.auction.specs.Settlement.{mills}
-use Rattle.pricing.specs.declared.ClearingPrice.{ClearingPrice}
 use Rattle.settle.specs.inner.Read.{quoted}
 use Rattle.settle.specs.inner.Rows.{committed_from}
 use Rattle.turns.specs.Turn.{turn_at}
 use Rattle.turns.specs.declared.turn.Turn.{Turn}
 use Rattle.workings.specs.inner.Works.{row_works_by, worked_row_by}
 use Rattle.workings.specs.declared.row.RowWorks.{RowWorks}
-use Rattle.workings.specs.declared.row.WorkedRow.TheVariants.{Row, NoRow}
+use Rattle.pricing.specs.Price.{ClearingPrice}
 
 module _ (o : Offers) (x : ℕ) (price : ClearingPrice) where
   turn-cleared : (row : ℕ) → (turn_at o x row).cleared ≡ cleared o x row
@@ -41,10 +41,10 @@ module _ (o : Offers) (x : ℕ) (price : ClearingPrice) where
 
   module _ (leasts : List ℕ) (row : ℕ) where
     pub row-there : (r : RowWorks) → row < o.count → r ≡ row_works_by o x price (get_or leasts row 0) row
-        → Row r ≡ worked_row_by o x price leasts row
+        → Some r ≡ worked_row_by o x price leasts row
     unfolding worked_row_by
-    row-there r l e = ap Row e ∙ sym (cond-true _ _ _ (lt-ltb row o.count l))
+    row-there r l e = ap Some e ∙ sym (cond-true _ _ _ (lt-ltb row o.count l))
 
-    pub row-absent : o.count ≤ row → NoRow ≡ worked_row_by o x price leasts row
+    pub row-absent : o.count ≤ row → None ≡ worked_row_by o x price leasts row
     unfolding worked_row_by
     row-absent l = sym (cond-false _ _ _ (le-ltb row o.count l))

@@ -5,9 +5,8 @@ use mathlib.Core.Bool.{true}
 use mathlib.Core.List.{List}
 use Prim.Native.Nat.{ℕ}
 use lib.ListN.{length}
+use Rattle.std.specs.Prelude.{Err, Ok}
 use Rattle.values.specs.Contents.{offer_at}
-use Rattle.values.specs.declared.Verdict.{Verdict}
-use Rattle.values.specs.declared.Verdict.TheVariants.{Passed, Refused}
 use Rattle.values.specs.declared.head.Parameters.{Parameters}
 use Rattle.values.proofs.Firsts.{and_then-next, and_then-refused}
 use Rattle.limits.specs.Offers.{rows_fault}
@@ -18,19 +17,20 @@ use Rattle.book.specs.inner.Opening.{before_rows, Opened}
 use Rattle.book.proofs.Stages.{rows-own, first-before}
 use Rattle.workings.specs.Works.{worked_by}
 use Rattle.workings.specs.declared.works.Works.{Works}
-use Rattle.workings.specs.declared.works.WorksAnswer.TheVariants.{Worked, Refused as WorksAnswer-as-Refused}
+use Rattle.values.specs.Refusals.{Verdict, no_fault}
+use Rattle.values.specs.declared.refusal.Refusal.{Refusal}
 
-pub answer-refused : (v : Verdict) (w : Works) (number place : ℕ) → v ≡ Refused number place → WorksAnswer-as-Refused number place ≡ worked_by v w
-answer-refused v w number place e = rw e
+pub answer-refused : (v : Verdict) (w : Works) (refusal : Refusal) → v ≡ Err refusal → Err refusal ≡ worked_by v w
+answer-refused v w refusal e = rw e
 
-pub answer-worked : (v : Verdict) (w own : Works) → v ≡ Passed → w ≡ own → Worked w ≡ worked_by v own
-answer-worked v w own e f = rw e (ap Worked f)
+pub answer-worked : (v : Verdict) (w own : Works) → v ≡ no_fault → w ≡ own → Ok w ≡ worked_by v own
+answer-worked v w own e f = rw e (ap Ok f)
 
 -- where what comes before the rows is refused, the book is
-pub answer-before : (b : List ℕ) (w : Works) (number place : ℕ) → before_rows b ≡ Refused number place
-    → WorksAnswer-as-Refused number place ≡ worked_by (first_fault b) w
-answer-before b w number place e =
-    answer-refused (first_fault b) w number place (first-before b ∙ and_then-refused (before_rows b) _ number place e)
+pub answer-before : (b : List ℕ) (w : Works) (refusal : Refusal) → before_rows b ≡ Err refusal
+    → Err refusal ≡ worked_by (first_fault b) w
+answer-before b w refusal e =
+    answer-refused (first_fault b) w refusal (first-before b ∙ and_then-refused (before_rows b) _ refusal e)
 
 -- where it passed, the rows decide
 pub first_rows : (b : List ℕ) (edition : ℕ) (p : Parameters) (n : ℕ) (found : Verdict) → Opened b edition p n

@@ -1,11 +1,9 @@
 -- The workings of what an accepted book says, over its offers and the curve that its parameters select.
 -- Assumes nothing.
-use Rattle.std.specs.Prelude.{ℕ, cond, List, ltb, length}
+use Rattle.std.specs.Prelude.{ℕ, cond, List, ltb, length, Err, Some, None, Ok}
 use Rattle.auction.specs.Offers.{Offers}
 use Rattle.auction.specs.Shares.{spare_tenths}
 use Rattle.values.specs.Contents.{Contents}
-use Rattle.values.specs.declared.Verdict.{Verdict}
-use Rattle.values.specs.declared.Verdict.TheVariants.{Passed, Refused}
 use Rattle.layout.specs.Read.{contents_of}
 use Rattle.book.specs.Faults.{first_fault}
 use Rattle.levels.specs.Stop.{stop_level}
@@ -19,11 +17,19 @@ use Rattle.turns.specs.Order.{contenders, placed_at}
 use Rattle.turns.specs.Turn.{turn_at}
 use Rattle.workings.specs.declared.spares.Contest.{Contest}
 use Rattle.workings.specs.declared.row.RowWorks.{RowWorks}
-use Rattle.workings.specs.declared.row.WorkedRow.{WorkedRow}
-use Rattle.workings.specs.declared.row.WorkedRow.TheVariants.{Row, NoRow}
 use Rattle.workings.specs.declared.works.Works.{Works}
-use Rattle.workings.specs.declared.works.WorksAnswer.{WorksAnswer}
-use Rattle.workings.specs.declared.works.WorksAnswer.TheVariants.{Worked, Refused as WorksAnswer-as-Refused}
+use Rattle.values.specs.Refusals.{Verdict, no_fault}
+use Rattle.std.specs.declared.result.Result.{Result}
+use Rattle.std.specs.declared.option.Option.{Option}
+use Rattle.values.specs.declared.refusal.Refusal.{Refusal}
+
+-- the workings of a book, or its refusal: a book that is not accepted has none
+abbrev pub WorksAnswer : Type 0
+WorksAnswer = Result Works Refusal
+
+-- what a row works out to, where there is such a row
+abbrev pub WorkedRow : Type 0
+WorkedRow = Option RowWorks
 
 -- the contest for the spare tenths of the level at p, where x clears, and who stands at a place in it
 unfoldable pub contest_at : Offers → (x p place : ℕ) → Contest
@@ -41,7 +47,7 @@ module _ (c : Contents) where
 
   -- the same of a row that may not be there
   unfoldable pub worked_row : ℕ → WorkedRow
-  worked_row row = cond (ltb row (length c.offers)) (Row (row_works row)) NoRow
+  worked_row row = cond (ltb row (length c.offers)) (Some (row_works row)) None
 
   -- where X stops, the price, a row, a rung of the ladder of price levels, and a place in the contest of the level at which X stops
   unfoldable pub works_of : (row rung place : ℕ) → Works
@@ -59,8 +65,8 @@ module _ (c : Contents) where
 
 -- the workings of a book that is accepted, and of any other its refusal
 abbrev pub worked_by : Verdict → Works → WorksAnswer
-worked_by Passed works = Worked works
-worked_by (Refused number place) works = WorksAnswer-as-Refused number place
+worked_by (Ok u) works = Ok works
+worked_by (Err refusal) works = Err refusal
 
 -- the workings of a book's bytes: of a row, of a rung of the ladder, of a place in the contest
 abbrev pub worked : List ℕ → (row rung place : ℕ) → WorksAnswer

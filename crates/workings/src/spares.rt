@@ -1,12 +1,12 @@
 // The contest for the spare tenths of a price level.
 ghost use Rattle.std.specs.Prelude.{◌≡◌};
-ghost use Rattle.columns.specs.inner.Column.{rows_of};
-ghost use Rattle.levels.specs.inner.Rows.{RowLists};
-ghost use Rattle.shares.specs.inner.Out.{Ordered};
+ghost use Rattle.columns.specs.inner.Sides.{offers_in};
 ghost use Rattle.turns.specs.Order.{contenders as contending, placed_at};
 ghost use Rattle.workings.specs.Works.{contest_at};
 
-use turns::place::{Placed, placed_at};
+use columns::rows::Rows;
+use turns::order::Contender;
+use turns::place::placed_at;
 use turns::spare::{contenders_at, spares_at};
 
 // How many tenths are spare, how many rows contend for them, and who stands at one place in their order.
@@ -14,56 +14,29 @@ use turns::spare::{contenders_at, spares_at};
 pub struct Contest {
     pub spares: u32,
     pub contenders: u32,
-    pub placed: Placed,
+    pub placed: Option<Contender>,
 }
 
 // Who stands at a place of the level at a price. A place past the last of the contenders is answered without a search.
-fn holder_at(
-    prices: &[u32],
-    quantities: &[u32],
-    resources: &[u32],
-    stamps: &[u64],
-    steps: &[u32],
-    n: usize,
-    x: u32,
-    price: u32,
-    place: usize,
-    contenders: u32,
-) -> Placed
-    requires row_lists { RowLists prices.now quantities.now n × Ordered quantities.now stamps.now resources.now steps.now n }
-    requires contenders_value { contenders ≡ contending (rows_of prices.now quantities.now stamps.now resources.now steps.now n) price }
-    ensures { result ≡ placed_at (rows_of prices.now quantities.now stamps.now resources.now steps.now n) x price place }
+fn holder_at(rows: &Rows, x: u32, price: u32, place: usize, contenders: u32) -> Option<Contender>
+    requires { contenders ≡ contending (offers_in rows.now) price }
+    ensures { result ≡ placed_at (offers_in rows.now) x price place }
 {
     if contenders as usize <= place {
-        return Placed::NoOne;
+        return None;
     }
-    placed_at(
-        prices, quantities, resources, stamps, steps, n, x, price, place,
-    )
+    placed_at(rows, x, price, place)
 }
 
 // The contest of the level at a price, and who stands at a place in it.
-pub(crate) fn contest_at(
-    prices: &[u32],
-    quantities: &[u32],
-    resources: &[u32],
-    stamps: &[u64],
-    steps: &[u32],
-    n: usize,
-    x: u32,
-    price: u32,
-    place: usize,
-) -> Contest
-    requires { RowLists prices.now quantities.now n × Ordered quantities.now stamps.now resources.now steps.now n }
-    ensures { result ≡ contest_at (rows_of prices.now quantities.now stamps.now resources.now steps.now n) x price place }
+pub(crate) fn contest_at(rows: &Rows, x: u32, price: u32, place: usize) -> Contest
+    ensures { result ≡ contest_at (offers_in rows.now) x price place }
 {
-    let spares = spares_at(prices, quantities, n, x, price);
-    let contenders = contenders_at(prices, n, price);
+    let spares = spares_at(&rows.asks, x, price);
+    let contenders = contenders_at(rows.asks.prices, price);
     Contest {
         spares,
         contenders,
-        placed: holder_at(
-            prices, quantities, resources, stamps, steps, n, x, price, place, contenders,
-        ),
+        placed: holder_at(rows, x, price, place, contenders),
     }
 }

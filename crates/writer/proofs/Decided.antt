@@ -2,9 +2,9 @@
 -- Assumes nothing.
 use mathlib.Core.Path.{◌≡◌, sym, ◌∙◌}
 use Prim.Native.Nat.{ℕ}
-use Rattle.values.specs.declared.Verdict.{Verdict}
 use Rattle.values.specs.declared.head.Parameters.{Parameters}
 use Rattle.writer.proofs.opening_fault.Reads as opening-fault
+use Rattle.values.specs.Refusals.{Verdict}
 
 pub opening-fault-decided : (edition : ℕ) (p : Parameters) (rows : ℕ) (r s : Verdict)
     → opening-fault.Post tt (edition, (p, (rows, tt))) r (edition, (p, (rows, tt)))

@@ -14,9 +14,8 @@ use Rattle.laws.proofs.Cases.{and_right}
 use Rattle.values.specs.Contents.{Contents, offer_at}
 use Rattle.values.specs.declared.Value.{Value}
 use Rattle.values.specs.declared.Value.TheVariants.{Given, Missing}
-use Rattle.values.specs.Refusals.{parameter_out_of_range, unless, and_then}
-use Rattle.values.specs.declared.Verdict.{Verdict}
-use Rattle.values.specs.declared.Verdict.TheVariants.{Passed}
+use Rattle.values.specs.Refusals.{parameter_out_of_range, unless, and_then, Verdict, no_fault}
+use Rattle.values.specs.declared.refusal.Refusal.TheVariants.{ParameterOutOfRange, OfferOutOfRange}
 use Rattle.values.specs.declared.head.Parameters.{Parameters}
 use Rattle.values.specs.declared.place.Offer.{Offer}
 use Rattle.values.proofs.Firsts.{unless-passed, and_then-left, and_then-right}
@@ -44,7 +43,7 @@ margin-fits : (year : ℕ) (v : Value) → margin_within year v ≡ true → Val
 margin-fits year (Given number) e = omega (arith, within-to 0 5000 number (and_right (by_margin year) (within 0 5000 number) e))
 margin-fits year Missing e = omega arith
 
-pub range-fits : (p : Parameters) → range_fault p ≡ Passed → ParametersFit p
+pub range-fits : (p : Parameters) → range_fault p ≡ no_fault → ParametersFit p
 unfolding range_fault
 range-fits p e =
     let t₁ : Bool = within 2022 2099 p.year in
@@ -58,16 +57,16 @@ range-fits p e =
     let rest₄ : Verdict = and_then (f t₄ 4) rest₅ in
     let rest₃ : Verdict = and_then (f t₃ 3) rest₄ in
     let rest₂ : Verdict = and_then (f t₂ 2) rest₃ in
-    let e₂ : rest₂ ≡ Passed = and_then-right (f t₁ 1) rest₂ e in
-    let e₃ : rest₃ ≡ Passed = and_then-right (f t₂ 2) rest₃ e₂ in
-    let e₄ : rest₄ ≡ Passed = and_then-right (f t₃ 3) rest₄ e₃ in
-    let e₅ : rest₅ ≡ Passed = and_then-right (f t₄ 4) rest₅ e₄ in
-    let year : p.year ≤ 2099 = within-to 2022 2099 p.year (unless-passed t₁ 5 1 (and_then-left (f t₁ 1) rest₂ e)) in
-    let cost : t₂ ≡ true = unless-passed t₂ 5 2 (and_then-left (f t₂ 2) rest₃ e₂) in
-    let offset : t₃ ≡ true = unless-passed t₃ 5 3 (and_then-left (f t₃ 3) rest₄ e₃) in
-    let outage : t₄ ≡ true = unless-passed t₄ 5 4 (and_then-left (f t₄ 4) rest₅ e₄) in
-    let requirement : t₅ ≡ true = unless-passed t₅ 5 5 (and_then-left (f t₅ 5) (f t₆ 6) e₅) in
-    let margin : t₆ ≡ true = unless-passed t₆ 5 6 (and_then-right (f t₅ 5) (f t₆ 6) e₅) in
+    let e₂ : rest₂ ≡ no_fault = and_then-right (f t₁ 1) rest₂ e in
+    let e₃ : rest₃ ≡ no_fault = and_then-right (f t₂ 2) rest₃ e₂ in
+    let e₄ : rest₄ ≡ no_fault = and_then-right (f t₃ 3) rest₄ e₃ in
+    let e₅ : rest₅ ≡ no_fault = and_then-right (f t₄ 4) rest₅ e₄ in
+    let year : p.year ≤ 2099 = within-to 2022 2099 p.year (unless-passed t₁ (ParameterOutOfRange 1) (and_then-left (f t₁ 1) rest₂ e)) in
+    let cost : t₂ ≡ true = unless-passed t₂ (ParameterOutOfRange 2) (and_then-left (f t₂ 2) rest₃ e₂) in
+    let offset : t₃ ≡ true = unless-passed t₃ (ParameterOutOfRange 3) (and_then-left (f t₃ 3) rest₄ e₃) in
+    let outage : t₄ ≡ true = unless-passed t₄ (ParameterOutOfRange 4) (and_then-left (f t₄ 4) rest₅ e₄) in
+    let requirement : t₅ ≡ true = unless-passed t₅ (ParameterOutOfRange 5) (and_then-left (f t₅ 5) (f t₆ 6) e₅) in
+    let margin : t₆ ≡ true = unless-passed t₆ (ParameterOutOfRange 6) (and_then-right (f t₅ 5) (f t₆ 6) e₅) in
     record {
       year = omega (arith, year);
       cost = value-fits 1 1000000 p.cost (omega arith) cost;
@@ -87,22 +86,22 @@ step_fits edition step = own (eqb edition 1) (λ e. eq-eqb edition 1 e)
     own true first e = let one = eqb-true step 1 e in record { one = λ f. one; byte = omega arith }
     own false first e = record { one = λ f. cc (first f); byte = omega (arith, within-to 1 10 step e) }
 
-offer-step : (edition : ℕ) (o : Offer) (row : ℕ) → offer_fault false edition o row ≡ Passed → step_within edition o.step ≡ true
+offer-step : (edition : ℕ) (o : Offer) (row : ℕ) → offer_fault false edition o row ≡ no_fault → step_within edition o.step ≡ true
 unfolding offer_fault offer_in_range
 offer-step edition o row e =
     and_right (given_within 1 o.quantity o.block) _
     (and_right (within 1 200000 o.quantity) _
     (and_right (given_within 0 1000000 o.price) _
-    (and_right (leb 1 o.seller) _ (and_right (leb 1 o.resource) _ (unless-passed _ 7 row e)))))
+    (and_right (leb 1 o.seller) _ (and_right (leb 1 o.resource) _ (unless-passed _ (OfferOutOfRange row) e)))))
 
 -- Offers that pass have steps of their edition.
-pub rows-within : (edition : ℕ) (offers : List Offer) → rows_fault false edition (offer_at offers) (length offers) ≡ Passed
+pub rows-within : (edition : ℕ) (offers : List Offer) → rows_fault false edition (offer_at offers) (length offers) ≡ no_fault
     → StepsWithin edition offers
 rows-within edition offers e row l =
     offer-step edition (offer_at offers row) row (rows-values false edition (offer_at offers) (length offers) e row l)
 
 -- Contents in which nothing is found fit the bytes of a book.
-pub given-fits : (c : Contents) → length c.offers ≤ 600 → edition_known c.edition ≡ true → given_fault c ≡ Passed
+pub given-fits : (c : Contents) → length c.offers ≤ 600 → edition_known c.edition ≡ true → given_fault c ≡ no_fault
     → OffersFit c.offers → Fits c
 unfolding given_fault
 given-fits c few known e fit =

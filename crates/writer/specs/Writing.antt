@@ -2,8 +2,7 @@
 -- Assumes nothing.
 use Rattle.std.specs.Prelude.{ℕ, leb, length}
 use Rattle.values.specs.Contents.{Contents}
-use Rattle.values.specs.Refusals.{unless, and_then, wrong_layout, too_many_rows, short_room}
-use Rattle.values.specs.declared.Verdict.{Verdict}
+use Rattle.values.specs.Refusals.{unless, and_then, wrong_layout, too_many_rows, short_room, Verdict}
 use Rattle.layout.specs.Layout.{edition_known}
 use Rattle.book.specs.Faults.{given_fault}
 use Rattle.encoding.specs.Encode.{encode}

@@ -1,7 +1,7 @@
 -- The clearing of a book of no rows.
 -- Assumes nothing.
-use Rattle.pricing.specs.declared.ClearingPrice.TheVariants.{NoPrice}
+use Rattle.std.specs.Prelude.{None}
 use Rattle.sale.specs.declared.Clearing.{Clearing}
 
 abbrev pub none_cleared : Clearing
-none_cleared = record { total = 0; price = NoPrice; make_whole = 0; daily = 0; year = 0 }
+none_cleared = record { total = 0; price = None; make_whole = 0; daily = 0; year = 0 }

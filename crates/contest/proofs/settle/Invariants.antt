@@ -1,13 +1,9 @@
 -- `settle` puts what each row receives in the place of its standing. The loop's invariant: it stands there in the rows passed.
 -- Assumes nothing.
 use mathlib.Core.Path.{◌≡◌}
-use Prim.Native.Nat.{◌≤◌, ◌-◌}
 use Rattle.laws.specs.Filled.{filled}
 use Rattle.contest.specs.inner.Sieve.{settled}
 use Rattle.contest.proofs.settle.Given as goal
 
 abbrev pub invariant-loop-i : goal.invariant-loop-i
-invariant-loop-i l = (l.i ≤ l.n) × (l.standings ≡ filled (settled l.initial.standings l.left) l.i l.initial.standings)
-
-abbrev pub decreases-loop-i : goal.decreases-loop-i
-decreases-loop-i l = l.n - l.i
+invariant-loop-i l = (l.standings ≡ filled (settled l.initial.standings l.left) l.i l.initial.standings)

@@ -7,6 +7,7 @@ use lib.ListN.{length}
 use native.Mathlib.Omega.{arith}
 use borrow.Author.Rules.{rules}
 use Rattle.values.specs.Contents.{offer_at}
+use Rattle.values.specs.declared.refusal.Refusal.TheVariants.{SeveralSteps}
 use Rattle.values.specs.Refusals.{first}
 use Rattle.values.specs.declared.place.Offer.{Offer}
 use Rattle.values.proofs.Firsts.{first-zero, first_on, first-refused}
@@ -21,7 +22,7 @@ pub loop-row-init : goal.loop-row-init
 loop-row-init c = (search rules, first-zero _)
 
 pub row_bytes-requires : goal.row_bytes-requires
-row_bytes-requires c = c.requires.within c.loop-row.row c.loop-row-test.true
+row_bytes-requires c = c.requires.within c.loop-row.row (omega arith)
 
 -- the offers of the book, from the function's entry
 abbrev offers : Start → List Offer
@@ -30,7 +31,7 @@ offers c = row_offers c.args.book.now c.args.edition 1 c.args.n
 -- the offer that was read is the row's own
 as-offer : (c : After-offer_in-o) →
     c.offer_in-o.result ≡ offer_at (row_offers c.args.book.now c.args.edition 1 c.args.n) c.loop-row.row
-as-offer c = offer-of-row _ _ _ _ _ c.loop-row-test.true c.row_bytes.ensures.0 c.offer_in-o.ensures
+as-offer c = offer-of-row _ _ _ _ _ (omega arith) c.row_bytes.ensures.0 c.offer_in-o.ensures
 
 -- as many as there are rows
 all-offers : (c : Start) → length (offers c) ≡ c.args.n
@@ -45,7 +46,7 @@ returns-then-o-gt1 c =
     let over : 2 ≤ (offer_at os c.loop-row.row).step = omega (arith, c.if-o-gt1.true, ap (λ (o : Offer). o.step) own) in
     sym
     (ap (first (one_step os)) (all-offers at.Start)
-    ∙ first-refused (one_step os) c.args.n c.loop-row.row 11 c.loop-row.row c.loop-row-test.true
+    ∙ first-refused (one_step os) c.args.n c.loop-row.row (SeveralSteps c.loop-row.row) (omega arith)
     c.loop-row.invariant.1 (row-refused os c.loop-row.row over))
 
 pub loop-row-preserved : goal.loop-row-preserved
@@ -61,5 +62,5 @@ unfolding steps_fault
 returns c =
     let at = goal.at.returns c in
     let os = offers at.Start in
-    let end : c.loop-row.row ≡ length os = omega (arith, c.loop-row-test.false, c.loop-row.invariant.0, all-offers at.Start) in
+    let end : c.loop-row.row ≡ length os = omega (arith, c.loop-row.invariant.0, all-offers at.Start) in
     sym (ap (first (one_step os)) (sym end) ∙ c.loop-row.invariant.1)

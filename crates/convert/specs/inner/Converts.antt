@@ -2,8 +2,7 @@
 -- Assumes nothing.
 use Rattle.std.specs.Prelude.{ℕ, List, length}
 use Rattle.values.specs.Contents.{Contents}
-use Rattle.values.specs.Refusals.{and_then}
-use Rattle.values.specs.declared.Verdict.{Verdict}
+use Rattle.values.specs.Refusals.{and_then, Verdict}
 use Rattle.layout.specs.Read.{contents_of}
 use Rattle.book.specs.Faults.{sound_fault}
 use Rattle.places.specs.inner.Rows.{put_rows}

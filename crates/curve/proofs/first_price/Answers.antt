@@ -3,12 +3,10 @@
 use mathlib.Core.Path.{◌≡◌, ◌∙◌}
 use Prim.Native.Nat.{ℕ, ◌*◌, ◌≤◌, ◌<◌}
 use native.Mathlib.Nat.{max-eq_left, max-eq_right, le_of_lt}
-use native.Mathlib.Omega.{arith}
 use Rattle.units.specs.Conversion.{daily_cents}
 use Rattle.curve.specs.declared.Terms.{Terms}
 use Rattle.curve.specs.declared.Weights.{Weights}
 use Rattle.curve.specs.Points.{net_cost, first_price}
-use Rattle.curve.proofs.Shapes.{net-most}
 use Rattle.curve.proofs.first_price.Goals as goal
 
 -- P1 where the weighted net cost is the greater, and where it is not
@@ -22,17 +20,12 @@ price-gross : (w : Weights) (t : Terms) (net : ℕ) → net ≡ net_cost t → n
 unfolding first_price
 price-gross w t net e h = rw (← e, max-eq_left h)
 
-pub overflow_mul-net : goal.overflow_mul-net
-overflow_mul-net c =
-    rw c.net_cost-net.ensures
-    (omega (arith, net-most c.args.t c.args.w.first c.requires.1 c.requires.0))
-
-pub returns-then-cost-net : goal.returns-then-cost-net
-returns-then-cost-net c =
+pub returns-then-t-net : goal.returns-then-t-net
+returns-then-t-net c =
     c.daily.ensures.0
-    ∙ price-net _ _ _ c.net_cost-net.ensures c.if-cost-net.true
+    ∙ price-net _ _ _ c.net_cost-net.ensures c.if-t-net.true
 
-pub returns-else-cost-net : goal.returns-else-cost-net
-returns-else-cost-net c =
-    c.daily-else-cost-net.ensures.0
-    ∙ price-gross _ _ _ c.net_cost-net.ensures c.if-cost-net.false
+pub returns-else-t-net : goal.returns-else-t-net
+returns-else-t-net c =
+    c.daily-else-t-net.ensures.0
+    ∙ price-gross _ _ _ c.net_cost-net.ensures c.if-t-net.false

@@ -11,6 +11,6 @@ use Rattle.curve.proofs.tenth_price.Goals as goal
 pub returns : goal.returns
 returns c =
     let a = c.args in
-    let cents : c.exact_price-exact.result.cents.0 ≡ tenth_price a.c a.k =
-    ap (λ (e : ExactPrice). e.cents.0) c.exact_price-exact.ensures ∙ exact-cents a.c a.k in
+    let cents : c.exact_price.result.cents.0 ≡ tenth_price a.c a.k =
+    ap (λ (e : ExactPrice). e.cents.0) c.exact_price.ensures ∙ exact-cents a.c a.k in
     (cents, omega (arith, price-most a.c c.requires.0 a.k))

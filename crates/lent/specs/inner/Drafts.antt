@@ -1,14 +1,12 @@
 -- A book that is to be written, as its rows are tested.
 --
 -- In order: what is kept of a row; a draft by its fault, and before its rows are looked at; one row more, and what is kept of it; a repeated resource; all
--- rows tested.
+-- rows tested for 7 and 10, and for 8.
 -- Assumes nothing.
-use Rattle.std.specs.Prelude.{ℕ, ◌+◌, ◌/◌, ◌<◌, ◌≡◌, false, cond, List, ltb, length, get_or, set}
+use Rattle.std.specs.Prelude.{ℕ, ◌+◌, ◌/◌, ◌<◌, ◌≡◌, false, cond, List, ltb, length, get_or, set, Err, Ok}
 use Rattle.values.specs.Contents.{no_offer, offer_at}
-use Rattle.values.specs.Refusals.{and_then, repeated_resource}
+use Rattle.values.specs.Refusals.{and_then, repeated_resource, Verdict}
 use Rattle.values.specs.declared.Value.TheVariants.{Missing}
-use Rattle.values.specs.declared.Verdict.{Verdict}
-use Rattle.values.specs.declared.Verdict.TheVariants.{Passed, Refused}
 use Rattle.values.specs.declared.head.Parameters.{Parameters}
 use Rattle.values.specs.declared.place.Offer.{Offer}
 use Rattle.repeats.specs.inner.Repeats.{first_repeat}
@@ -19,8 +17,8 @@ use Rattle.lent.specs.declared.tested.Draft.{Draft}
 
 -- so many rows where nothing is refused, and else none
 abbrev pub rows_where : Verdict → ℕ → ℕ
-rows_where Passed rows = rows
-rows_where (Refused number place) rows = 0
+rows_where (Ok u) rows = rows
+rows_where (Err refusal) rows = 0
 
 -- what is kept of an offer, and that as an offer again: the rest of it is none's
 abbrev pub before_of : Offer → Before
@@ -59,3 +57,12 @@ pub record RowsTested (edition : ℕ) (offers : List Offer) (d : Draft) (kept : 
   pub rows : r.rows ≡ rows_before (values_fault false edition (offer_at offers) d.rows) d.rows
   pub resources : (row : ℕ) → row < r.rows → get_or kept' row 0 ≡ (offer_at offers row).resource
   pub steps : (row : ℕ) → row < r.rows → get_or kept' (length kept / 2 + row) 0 ≡ (offer_at offers row).step
+
+-- all rows tested for 7 and 10, and then for 8, by what was kept of them
+pub record Searched (edition : ℕ) (offers : List Offer) (d r : Draft) : Type 0 where
+  pub before : List ℕ
+  pub kept : List ℕ
+  pub found : Draft
+  pub long : length kept ≡ length before
+  pub tested : RowsTested edition offers d before found kept
+  pub answered : r ≡ draft_by (repeated_in found kept) found.rows found.before

@@ -1,8 +1,7 @@
 -- What is done with the room before rows are put into it, and once they stand there.
 -- Assumes nothing.
 use Rattle.std.specs.Prelude.{ℕ, ◌≡◌, List, leb, length}
-use Rattle.values.specs.Refusals.{unless, and_then, short_room, buffer_by}
-use Rattle.values.specs.declared.Verdict.{Verdict}
+use Rattle.values.specs.Refusals.{unless, and_then, short_room, buffer_by, Verdict}
 use Rattle.values.specs.declared.head.Parameters.{Parameters}
 use Rattle.encoding.specs.Numbers.{zeros}
 use Rattle.places.specs.inner.Put.{put}

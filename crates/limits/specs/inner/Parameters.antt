@@ -2,9 +2,7 @@
 -- Assumes nothing.
 use Rattle.std.specs.Prelude.{ℕ, Bool, cond}
 use Rattle.values.specs.Values.{marked}
-use Rattle.values.specs.Refusals.{missing_parameter, unless, and_then}
-use Rattle.values.specs.declared.Verdict.{Verdict}
-use Rattle.values.specs.declared.Verdict.TheVariants.{Passed}
+use Rattle.values.specs.Refusals.{missing_parameter, unless, and_then, Verdict, no_fault}
 
 -- how many of the values are needed, in the order of their marks: all five, or, without the margin, which is the last, four
 abbrev pub values_needed : Bool → ℕ
@@ -17,4 +15,4 @@ missing_marks with_margin marks =
     (and_then (unless (marked marks 1) (missing_parameter 3))
     (and_then (unless (marked marks 2) (missing_parameter 4))
     (and_then (unless (marked marks 3) (missing_parameter 5))
-    (cond with_margin (unless (marked marks 4) (missing_parameter 6)) Passed))))
+    (cond with_margin (unless (marked marks 4) (missing_parameter 6)) no_fault))))

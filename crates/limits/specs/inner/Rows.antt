@@ -1,9 +1,7 @@
 -- The rows' first fault in two passes: 6, 7 and 10 by row, and then 8 among the rows before the one refused.
 -- Assumes nothing.
-use Rattle.std.specs.Prelude.{ℕ, ◌-◌, Bool, cond, ltb}
-use Rattle.values.specs.Refusals.{repeated_resource, broken_steps, unless, and_then, first}
-use Rattle.values.specs.declared.Verdict.{Verdict}
-use Rattle.values.specs.declared.Verdict.TheVariants.{Passed, Refused}
+use Rattle.std.specs.Prelude.{ℕ, ◌-◌, Bool, cond, ltb, Err, Ok}
+use Rattle.values.specs.Refusals.{place_of, repeated_resource, broken_steps, unless, and_then, first, Verdict}
 use Rattle.values.specs.declared.place.Offer.{Offer}
 use Rattle.repeats.specs.inner.Repeats.{first_repeat}
 use Rattle.limits.specs.Offers.{offer_fault, step_fault}
@@ -23,8 +21,8 @@ values_fault prices_needed edition offers n = first (λ row. row_fault prices_ne
 
 -- how many rows stand before the one that the fault found refuses: all n where none is refused
 abbrev pub rows_before : Verdict → ℕ → ℕ
-rows_before Passed n = n
-rows_before (Refused number row) n = row
+rows_before (Ok u) n = n
+rows_before (Err refusal) n = place_of refusal
 
 -- a repeat among those rows comes before the refusal
 unfoldable pub with_repeats : Verdict → (ℕ → ℕ) → (ℕ → ℕ) → ℕ → Verdict

@@ -2,7 +2,6 @@
 -- Assumes nothing.
 use mathlib.Core.Path.{◌≡◌, sym, ◌∙◌}
 use native.Mathlib.Omega.{arith}
-use Rattle.values.specs.declared.Verdict.TheVariants.{Passed}
 use Rattle.sections.specs.Blocks.{block_of}
 use Rattle.layout.specs.Read.{contents_of}
 use Rattle.layout.proofs.Contained.{contents-edition, contents-parameters, contents-count}
@@ -10,15 +9,16 @@ use Rattle.listing.specs.Listed.{read_fault}
 use Rattle.listing.proofs.Listings.{passed-long, contents-refused, contents-passed}
 use Rattle.listing.proofs.contents.Goals as goal
 use Rattle.listing.proofs.contents.Goals.{After-parameters_in, In_default}
+use Rattle.values.specs.Refusals.{no_fault}
 
-pub returns-in-Refused : goal.returns-in-Refused
-returns-in-Refused c =
+pub returns-in-Err : goal.returns-in-Err
+returns-in-Err c =
     c.contents_refused.ensures
-    ∙ contents-refused _ _ _ _ (sym c.read_fault.ensures ∙ c.in-Refused.is)
+    ∙ contents-refused _ _ _ (sym c.read_fault.ensures ∙ c.in-Err.is)
 
 -- past the test nothing refused
 passed : (c : In_default)
-    → let a = c.args in read_fault a.book.now a.entries ≡ Passed
+    → let a = c.args in read_fault a.book.now a.entries ≡ no_fault
 passed c = sym c.read_fault.ensures ∙ c.in_default.is
 
 pub edition-requires : goal.edition-requires

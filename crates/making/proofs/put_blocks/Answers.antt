@@ -3,7 +3,6 @@
 use mathlib.Core.Path.{refl, ap, ◌∙◌}
 use Rattle.making.proofs.Fields.{blocks-none, blocks_more}
 use mathlib.Core.Path.{◌≡◌}
-use Prim.Native.Nat.{◌-◌}
 use Rattle.making.specs.inner.Made.{blocks_made}
 use Rattle.sections.specs.Section.{blocks_for}
 use native.Mathlib.Omega.{arith}

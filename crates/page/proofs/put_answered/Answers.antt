@@ -2,8 +2,8 @@
 -- Assumes nothing.
 use Rattle.page.proofs.put_answered.Goals as goal
 
-pub returns-in-Cleared : goal.returns-in-Cleared
-returns-in-Cleared c = rw (← c.quote.ensures, c.in-Cleared.is) c.put_accepted.ensures
+pub returns-in-Ok : goal.returns-in-Ok
+returns-in-Ok c = rw (← c.quote.ensures, c.in-Ok.is) c.put_accepted.ensures
 
-pub returns-in-Refused : goal.returns-in-Refused
-returns-in-Refused c = rw (← c.quote.ensures, c.in-Refused.is) c.put_refused.ensures
+pub returns-in-Err : goal.returns-in-Err
+returns-in-Err c = rw (← c.quote.ensures, c.in-Err.is) c.put_refused.ensures

@@ -4,11 +4,10 @@ use Rattle.forms.proofs.Shows.{shows_more}
 use Rattle.page.specs.Page.{head_parts}
 use Rattle.page.proofs.put_head.Goals as goal
 
-pub returns-in-Stated : goal.returns-in-Stated
+pub returns-in_default : goal.returns-in_default
 unfolding head_parts
-returns-in-Stated c =
-    rw (← c.head_of.ensures, c.in-Stated.is) (shows_more _ _ _ c.put_stated-behind.ensures c.put_answered.ensures)
+returns-in_default c = rw (← c.head_of.ensures, c.in_default.is) c.put_unread.ensures
 
-pub returns-in-Unread : goal.returns-in-Unread
+pub returns : goal.returns
 unfolding head_parts
-returns-in-Unread c = rw (← c.head_of.ensures, c.in-Unread.is) c.put_unread.ensures
+returns c = rw (← c.head_of.ensures, c.in-Some.is) (shows_more _ _ _ c.put_stated-behind.ensures c.put_answered.ensures)

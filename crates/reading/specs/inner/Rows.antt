@@ -1,26 +1,24 @@
 -- What reading and testing the rows of a book yields.
 -- Assumes nothing.
-use Rattle.std.specs.Prelude.{ℕ, ◌+◌, ◌-◌, ◌*◌, ◌/◌, ◌≤◌, ◌≡◌, Bool, true, List, length}
+use Rattle.std.specs.Prelude.{ℕ, ◌+◌, ◌*◌, ◌/◌, ◌≤◌, ◌≡◌, Bool, true, List, length, Err, Ok}
 use Rattle.values.specs.Contents.{offer_at}
-use Rattle.values.specs.declared.Verdict.{Verdict}
-use Rattle.values.specs.declared.Verdict.TheVariants.{Passed, Refused}
 use Rattle.values.specs.declared.place.Offer.{Offer}
 use Rattle.layout.specs.Read.{row_offer}
 use Rattle.limits.specs.Offers.{rows_fault}
 use Rattle.limits.specs.inner.Rows.{values_fault}
 use Rattle.columns.specs.inner.Column.{Column, row_resource, row_step}
 use Rattle.columns.specs.inner.Columns.{Columns, ColumnsRead}
+use Rattle.values.specs.Refusals.{Verdict, place_of}
 
--- a row of a book, its own offer and the number of the row before it, which is 0 for row 0
-pub record RowAt (b : List ℕ) (edition first : ℕ) (o : Offer) (before row : ℕ) : Type 0 where
+-- a row of a book and its own offer
+pub record RowAt (b : List ℕ) (edition first : ℕ) (o : Offer) (row : ℕ) : Type 0 where
   pub within : (first + row / 15) * 512 + 512 ≤ length b
   pub own : o ≡ row_offer b edition first row
-  pub behind : before ≡ row - 1
 
 -- how many rows are read before the tests of values end: all n, or those up to the refused one
 abbrev pub rows_tested : Verdict → ℕ → ℕ
-rows_tested Passed n = n
-rows_tested (Refused number row) n = row + 1
+rows_tested (Ok u) n = n
+rows_tested (Err refusal) n = place_of refusal + 1
 
 -- the first fault by 6, 7 or 10 among the first n offers, and the resource numbers and the steps of the rows up to it
 pub record ValuesTested (needed : Bool) (edition : ℕ) (offers : List Offer) (n : ℕ) (fault : Verdict)

@@ -1,7 +1,7 @@
 -- `earlier_row` looks at one row after another. The loop's invariant: none of those passed has the resource.
 -- Assumes nothing.
 use mathlib.Core.Path.{sym, ◌∙◌}
-use Prim.Native.Nat.{◌-◌, ◌<◌}
+use Prim.Native.Nat.{◌<◌}
 use lib.ListN.{length}
 use Rattle.layout.specs.Form.{form_fault}
 use Rattle.layout.specs.Read.{contents_of}

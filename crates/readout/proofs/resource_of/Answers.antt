@@ -10,4 +10,4 @@ row_bytes-requires c = there-inside _ _ c.requires.1
 
 pub returns : goal.returns
 returns c =
-    ap (λ (o : Offer). o.resource) (there-offer _ _ c.requires.1 c.requires.0 c.row_bytes.ensures.0 c.offer_in-offer.ensures)
+    ap (λ (o : Offer). o.resource) (there-offer _ _ c.requires.1 c.requires.0 c.row_bytes.ensures.0 c.offer_in.ensures)

@@ -3,7 +3,7 @@
 -- Assumes nothing.
 use mathlib.Core.Path.{◌≡◌}
 use mathlib.Core.Bool.{true, not, ◌&&◌}
-use Prim.Native.Nat.{◌≤◌, ◌-◌}
+use Prim.Native.Nat.{◌≤◌}
 use lib.Dec.{eqb}
 use lib.ListN.{get_or}
 use Rattle.laws.specs.Sum.{every}
@@ -12,14 +12,9 @@ use Rattle.repeats.proofs.first_repeat.Given as goal
 
 abbrev pub invariant-loop-earlier : goal.invariant-loop-earlier
 invariant-loop-earlier l =
-    (l.earlier ≤ l.row)
+    (l.found ≡ l.n)
     × (every (λ e. not (eqb (get_or l.steps l.row 0) 1 && eqb (get_or l.resources e 0) (get_or l.resources l.row 0))) l.earlier ≡ true)
 
-abbrev pub decreases-loop-earlier : goal.decreases-loop-earlier
-decreases-loop-earlier l = l.row - l.earlier
-
 abbrev pub invariant-rows : goal.invariant-rows
-invariant-rows l = (l.row ≤ l.n) × (every (no_repeat (λ r. get_or l.resources r 0) (λ r. get_or l.steps r 0)) l.row ≡ true)
-
-abbrev pub decreases-rows : goal.decreases-rows
-decreases-rows l = l.n - l.row
+invariant-rows l =
+    (l.found ≡ l.n) × (l.row ≤ l.n) × (every (no_repeat (λ r. get_or l.resources r 0) (λ r. get_or l.steps r 0)) l.row ≡ true)

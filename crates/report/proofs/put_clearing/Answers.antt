@@ -56,7 +56,7 @@ put_word-requires c =
 pub returns : goal.returns
 unfolding sold_text
 returns c =
-    let head = fitted-append c.put_word-first.ensures.0 c.put_price-second.ensures.0 in
+    let head = fitted-append (rw c.from.ensures at c.put_word-first.ensures.0) c.put_price-second.ensures.0 in
     let rows = rows-counted _ c.offer_count-n.ensures.0 c.put_rows-third.ensures.0 in
     let daily = c.put_word-fourth.ensures.0 in
     fitted-append (fitted-append (fitted-append head rows) daily) c.put_word.ensures.0

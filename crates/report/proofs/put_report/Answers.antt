@@ -8,23 +8,23 @@ use Rattle.report.proofs.put_report.Goals as goal
 pub put_clearing-requires : goal.put_clearing-requires
 put_clearing-requires c =
     record {
-      book_value = answered-accepted _ _ _ _ _ _ c.clear-answer.ensures _ c.in-Cleared.is;
+      book_value = answered-accepted _ _ _ _ _ _ c.clear.ensures _ c.in-Ok.is;
       in_bounds = (search rules, search rules);
       at_in_bounds = search rules;
     }
 
-pub returns-in-Cleared : goal.returns-in-Cleared
-returns-in-Cleared c =
-    let same = sold-reported _ _ _ _ _ _ c.clear-answer.ensures _ c.in-Cleared.is in
+pub returns-in-Ok : goal.returns-in-Ok
+returns-in-Ok c =
+    let same = sold-reported _ _ _ _ _ _ c.clear.ensures _ c.in-Ok.is in
     let f = fitted-as same c.put_clearing.ensures in
     record {
       fitted = f;
       prefix_len = f.written.counts;
     }
 
-pub returns-in-Refused : goal.returns-in-Refused
-returns-in-Refused c =
-    let same = refusal-reported _ _ _ _ _ _ c.clear-answer.ensures _ _ (search rules) (search rules) c.in-Refused.is in
+pub returns-in-Err : goal.returns-in-Err
+returns-in-Err c =
+    let same = refusal-reported _ _ _ _ _ _ c.clear.ensures _ (search rules) (search rules) c.in-Err.is in
     let f = fitted-as same c.put_refusal.ensures in
     record {
       fitted = f;

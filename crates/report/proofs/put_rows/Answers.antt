@@ -1,6 +1,5 @@
 -- `put_rows` puts the line of one row after another. The loop's invariant: the lines of the rows so far were put.
 -- Assumes nothing.
-use Prim.Native.Nat.{◌-◌}
 use Rattle.report.proofs.Fitting.{rows_none, rows_more, rows-counted}
 use native.Mathlib.Omega.{arith}
 use borrow.Author.Rules.{rules}

@@ -6,7 +6,6 @@ use Rattle.auction.specs.Settlement.{mills}
 use Rattle.settle.specs.inner.Read.{quoted}
 use Rattle.layout.specs.Form.{edition_of, offer_count}
 use Rattle.layout.specs.Read.{row_offer}
-use Rattle.sale.specs.Auction.{total, price}
 use Rattle.sale.specs.declared.Clearing.{Clearing}
 use Rattle.report.specs.Lines.{row_text}
 use Rattle.report.specs.Report.{lines_text}

@@ -1,7 +1,6 @@
 -- What the tests of a section ask of it, and the used places of a block alone.
 -- Assumes nothing.
 use Rattle.std.specs.Prelude.{ℕ, ◌+◌, ◌*◌, ◌≤◌, Bool, true, cond, List, length}
-use Rattle.values.specs.Refusals.{first}
 use Rattle.sections.specs.declared.section.LastBytes.{LastBytes}
 use Rattle.sections.specs.declared.section.Section.{Section}
 use Rattle.sections.specs.Section.{blocks_for, used_holds}

@@ -3,6 +3,7 @@
 -- Assumes nothing.
 use mathlib.Core.Path.{◌≡◌}
 use Prim.Native.Nat.{◌≤◌, ◌-◌, ◌*◌}
+use lib.ListN.{length}
 use Rattle.laws.specs.Filled.{filled}
 use Rattle.laws.specs.Sum.{sum_to}
 use Rattle.settle.specs.inner.Rows.{row_commits, row_past}
@@ -10,10 +11,10 @@ use Rattle.settle.proofs.commit.Given as goal
 
 abbrev pub invariant-loop-row : goal.invariant-loop-row
 invariant-loop-row l =
-    (l.row ≤ l.n)
+    (l.row ≤ length l.leasts)
     × (l.out ≡ filled (row_commits l.leasts l.cleared) l.row l.initial.out)
     × (l.past ≡ sum_to (row_past l.leasts l.cleared) l.row)
     × (l.past ≤ l.row * 200000)
 
 abbrev pub decreases-loop-row : goal.decreases-loop-row
-decreases-loop-row l = l.n - l.row
+decreases-loop-row l = length l.leasts - l.row

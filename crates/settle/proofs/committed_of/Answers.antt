@@ -8,8 +8,5 @@ use Rattle.settle.proofs.committed_of.Goals as goal
 pub returns-then-cleared-eq0 : goal.returns-then-cleared-eq0
 returns-then-cleared-eq0 c = (from_nothing _ _ c.if-cleared-eq0.true, omega arith)
 
-pub returns-then-cleared-least : goal.returns-then-cleared-least
-returns-then-cleared-least c = (omega arith ∙ from_some _ _ c.if-cleared-eq0.false, omega arith)
-
-pub returns-else-cleared-least : goal.returns-else-cleared-least
-returns-else-cleared-least c = (omega arith ∙ from_some _ _ c.if-cleared-eq0.false, omega arith)
+pub returns-else-cleared-eq0 : goal.returns-else-cleared-eq0
+returns-else-cleared-eq0 c = (c.max.ensures ∙ from_some _ _ c.if-cleared-eq0.false, omega arith)

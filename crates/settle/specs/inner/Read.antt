@@ -1,11 +1,10 @@
 -- The price that a clearing quotes.
 -- Assumes nothing.
-use Rattle.std.specs.Prelude.{ℕ}
+use Rattle.std.specs.Prelude.{ℕ, Some, None}
 use Rattle.std.proofs.Math.Option.{Option, none, some}
-use Rattle.pricing.specs.declared.ClearingPrice.{ClearingPrice}
-use Rattle.pricing.specs.declared.ClearingPrice.TheVariants.{Price, NoPrice}
+use Rattle.pricing.specs.Price.{ClearingPrice}
 
 -- the price that a clearing quotes, if it quotes one
 abbrev pub quoted : ClearingPrice → Option ℕ
-quoted (Price cents) = some cents.0
-quoted NoPrice = none
+quoted (Some cents) = some cents.0
+quoted None = none

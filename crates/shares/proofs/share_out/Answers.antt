@@ -4,12 +4,11 @@
 use mathlib.Core.Path.{◌≡◌, sym, ◌∙◌}
 use Prim.Native.Nat.{◌-◌, ◌≤◌}
 use native.Mathlib.Omega.{arith}
-use borrow.Author.Rules.{rules}
 use Rattle.laws.proofs.Filling.{length-filling}
 use Rattle.laws.proofs.FilledRows.{filled_row}
 use Rattle.auction.specs.Offers.{Offers}
 use Rattle.auction.specs.Shares.{spare_tenths}
-use Rattle.columns.specs.inner.Column.{rows_of}
+use Rattle.columns.specs.inner.Sides.{rows_in, offers_in}
 use Rattle.parts.specs.inner.Divides.{DividesRows}
 use Rattle.shares.specs.inner.Stages.{Stopped, HoldsParts}
 use Rattle.shares.proofs.Given.{rows-stopped, rows-divide}
@@ -20,27 +19,26 @@ use Rattle.shares.proofs.share_out.Goals.{After-held_at, After-parts, Start}
 
 abbrev rows : After-held_at → Offers
 rows c =
-    let a = c.args in
-    rows_of a.prices.now a.quantities.now a.stamps.now a.resources.now a.steps.now a.n
+    offers_in c.args.rows.now
 
 stopped : (c : After-held_at) → Stopped (rows c) c.args.level
-stopped c = rows-stopped _ _ _ _ _ _ _ c.requires.row_lists.0 c.requires.row_lists.1 c.requires.stops_at
+stopped c = let r = c.args.rows.now in rows-stopped _ _ _ _ _ _ _ r.asks.listed r.ordered c.requires.stops_at
 
-divides : (c : Start) → DividesRows c.args.level c.args.prices.now c.args.quantities.now c.args.n
+divides : (c : Start) → DividesRows c.args.level c.args.rows.now.asks.prices.now c.args.rows.now.asks.quantities.now (rows_in c.args.rows.now)
 divides c =
-    rows-divide _ _ _ _ c.args.steps.now _ _ c.requires.row_lists.0 c.requires.row_lists.1 c.requires.stops_at
+    let r = c.args.rows.now in rows-divide _ _ _ _ r.steps.now _ _ r.asks.listed r.ordered c.requires.stops_at
 
 pub parts-requires : goal.parts-requires
 parts-requires c =
     record {
       divides_rows = divides (goal.at.parts-requires c).Start;
-      n_in_bounds = search rules;
+      out_in_bounds = c.requires.rows_in_bounds;
     }
 
 holds : (c : After-parts) → let a = c.args in
-    HoldsParts a.level a.prices.now a.quantities.now a.n c.parts.new.out
+    HoldsParts a.level a.rows.now.asks.prices.now a.rows.now.asks.quantities.now (rows_in a.rows.now) c.parts.new.out
 holds c =
-    let long = c.requires.n_in_bounds in
+    let long = c.requires.rows_in_bounds in
     let same = length-filling _ _ _ c.parts.ensures in
     record { long = rw same long; row = filled_row _ _ _ c.parts.ensures long }
 
@@ -50,12 +48,12 @@ held_at-requires c =
     parts-rows _ _ _ _ (divides at.Start) c.parts.new.out (holds at.After-parts)
 
 -- what the level holds is at most its amount, and leaves its spare tenths
-spares : (c : After-held_at) → HoldsParts c.args.level c.args.prices.now c.args.quantities.now c.args.n c.parts.new.out
+spares : (c : After-held_at) → HoldsParts c.args.level c.args.rows.now.asks.prices.now c.args.rows.now.asks.quantities.now (rows_in c.args.rows.now) c.parts.new.out
     → (c.held_at.result ≤ c.args.level.amount)
     × (c.args.level.amount - c.held_at.result ≡ spare_tenths (rows c) c.args.level.total c.args.level.price)
 spares c own =
-    let a = c.args in
-    held-spare _ _ a.stamps.now a.resources.now a.steps.now _ _ (stopped c) c.parts.new.out own _
+    let r = c.args.rows.now in
+    held-spare _ _ r.stamps.now r.resources.now r.steps.now _ _ (stopped c) c.parts.new.out own _
     c.held_at.ensures
 
 pub overflow_sub-spare : goal.overflow_sub-spare
@@ -69,7 +67,7 @@ give-requires c =
     let own = holds at.After-parts in
     record {
       divides = divides at.Start;
-      ordered = c.requires.row_lists.1;
+      ordered = c.args.rows.now.ordered;
       stopped = stopped at.After-held_at;
       holds = own;
       tenths = (spares at.After-held_at own).1;
@@ -77,10 +75,10 @@ give-requires c =
 
 pub returns-then-spare-gt0 : goal.returns-then-spare-gt0
 returns-then-spare-gt0 c =
-    given-shared (rows (goal.at.returns-then-spare-gt0 c).After-held_at) _ _ _ _ c.requires.n_in_bounds c.parts.ensures c.give.ensures
+    given-shared (rows (goal.at.returns-then-spare-gt0 c).After-held_at) _ _ _ _ c.requires.rows_in_bounds c.parts.ensures c.give.ensures
 
 pub returns-else-spare-gt0 : goal.returns-else-spare-gt0
 returns-else-spare-gt0 c =
     let at = goal.at.returns-else-spare-gt0 c in
-    parts_shared (rows at.After-held_at) _ _ (stopped at.After-held_at) c.requires.n_in_bounds c.parts.ensures
+    parts_shared (rows at.After-held_at) _ _ (stopped at.After-held_at) c.requires.rows_in_bounds c.parts.ensures
     (sym (spares at.After-held_at (holds at.After-parts)).1 ∙ omega arith)

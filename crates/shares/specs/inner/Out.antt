@@ -1,6 +1,7 @@
 -- What a list of amounts holds once a total is shared out over its rows.
 -- Assumes nothing.
 use Rattle.std.specs.Prelude.{ℕ, ◌≤◌, ◌<◌, ◌≡◌, List, length, get_or}
+pub use Rattle.columns.specs.inner.Ordered.{Ordered}
 use Rattle.auction.specs.Offers.{Offers}
 use Rattle.auction.specs.Shares.{cleared}
 
@@ -9,10 +10,3 @@ pub record SharedOut (o : Offers) (x : ℕ) (before after : List ℕ) : Type 0 w
   pub length-kept : length after ≡ length before
   pub row : (i : ℕ) → i < o.count → get_or after i 0 ≡ cleared o x i
   pub past : (i : ℕ) → o.count ≤ i → get_or after i 0 ≡ get_or before i 0
-
--- the lists that order the rows for the spare tenths are long enough, and every row offers something
-pub record Ordered (quantities stamps resources steps : List ℕ) (n : ℕ) : Type 0 where
-  pub stamps-long : n ≤ length stamps
-  pub resources-long : n ≤ length resources
-  pub steps-long : n ≤ length steps
-  pub positive : (i : ℕ) → i < n → 0 < get_or quantities i 0

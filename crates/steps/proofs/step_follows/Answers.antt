@@ -6,4 +6,4 @@ use Rattle.steps.proofs.step_follows.Goals as goal
 
 pub returns : goal.returns
 unfolding step_follows
-returns c = simp (and_assoc, c.not_cheaper.ensures, c.is_flexible.ensures)
+returns c = simp (and_assoc, c.from.ensures, c.from-2.ensures, c.not_cheaper.ensures, c.is_flexible.ensures)

@@ -3,15 +3,18 @@
 use mathlib.Core.Path.{sym, ap, ◌∙◌}
 use native.Mathlib.Omega.{arith}
 use lib.ListN.{length}
+use borrow.Author.Tests.{eqb-true, eqb-false}
 use Rattle.verdicts.proofs.Handing.{handed-empty, handed-more, handed-few}
 use Rattle.verdicts.proofs.rows_handed.Goals as goal
 
-pub returns-then-part-eq0 : goal.returns-then-part-eq0
-returns-then-part-eq0 c =
-    handed-empty _ _ c.loop-row.invariant (sym (ap length c.own_bytes-part.ensures) ∙ c.if-part-eq0.true)
+pub returns-then-is_empty : goal.returns-then-is_empty
+returns-then-is_empty c =
+    handed-empty _ _ c.loop-row.invariant
+    (ap length (sym c.own_bytes.ensures) ∙ eqb-true _ _ (sym c.is_empty.ensures ∙ c.if-is_empty.true))
 
 pub loop-row-preserved : goal.loop-row-preserved
-loop-row-preserved c = handed-more _ _ (λ e. c.if-part-eq0.false (ap length c.own_bytes-part.ensures ∙ e))
+loop-row-preserved c =
+    handed-more _ _ (λ e. eqb-false _ _ (sym c.is_empty.ensures ∙ c.if-is_empty.false) (ap length c.own_bytes.ensures ∙ e))
 
 pub returns : goal.returns
 returns c = omega (arith, handed-few c.args.book.now)

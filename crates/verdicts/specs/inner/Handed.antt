@@ -1,10 +1,9 @@
 -- How many rows of a book the reader hands back.
 -- Assumes nothing.
-use Rattle.std.specs.Prelude.{ℕ}
-use Rattle.values.specs.declared.Verdict.{Verdict}
-use Rattle.values.specs.declared.Verdict.TheVariants.{Passed, Refused}
+use Rattle.std.specs.Prelude.{ℕ, Err, Ok}
+use Rattle.values.specs.Refusals.{Verdict}
 
 -- all that a book states, and none of one that is refused by 1 to 3
 abbrev pub rows_handed : Verdict → ℕ → ℕ
-rows_handed Passed offers = offers
-rows_handed (Refused number place) offers = 0
+rows_handed (Ok u) offers = offers
+rows_handed (Err refusal) offers = 0

@@ -31,4 +31,4 @@ pub returns-in_default : goal.returns-in_default
 unfolding bytes_of words_of
 returns-in_default c =
     let none : c.args.number ≡ 0 = omega arith in
-    rw c.no_text.ensures (told_none _ _ (ap length (sym (words-known none))))
+    told_none _ _ (ap length (sym (words-known none)))

@@ -4,7 +4,7 @@ use Rattle.words.proofs.Telling.{told_none, told-short, told-put}
 use Rattle.words.proofs.put_text.Goals as goal
 
 pub returns-then-text-eq0 : goal.returns-then-text-eq0
-returns-then-text-eq0 c = rw c.no_text.ensures (told_none _ _ c.if-text-eq0.true)
+returns-then-text-eq0 c = told_none _ _ c.if-text-eq0.true
 
 pub returns-then-room-text : goal.returns-then-room-text
 returns-then-room-text c = rw c.refused.ensures (told-short _ _ c.if-room-text.true)

@@ -17,5 +17,4 @@ returns-in-20 c = told-as (words-known c.in-20.is) c.put_text-in-20.ensures
 
 pub returns-in_default : goal.returns-in_default
 returns-in_default c =
-    rw c.no_text.ensures
-    (told_none _ _ (ap length (words-none c.args.number c.if-number-le11.false (omega arith) (omega arith))))
+    told_none _ _ (ap length (words-none c.args.number c.if-number-le11.false (omega arith) (omega arith)))

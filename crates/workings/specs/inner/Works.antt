@@ -1,6 +1,6 @@
 -- The workings over columns of rows: a row's by the least that it commits.
 -- Assumes nothing.
-use Rattle.std.specs.Prelude.{ℕ, ◌-◌, cond, List, ltb, get_or}
+use Rattle.std.specs.Prelude.{ℕ, ◌-◌, cond, List, ltb, get_or, Some, None}
 use Rattle.auction.specs.Offers.{Offers}
 use Rattle.auction.specs.Clearing.{cleared_total, clearing_price}
 use Rattle.auction.specs.Shares.{cleared}
@@ -8,18 +8,15 @@ use Rattle.auction.specs.Settlement.{mills}
 use Rattle.curve.specs.Price.{demand_of}
 use Rattle.curve.specs.declared.Curve.{Curve}
 use Rattle.levels.specs.Stop.{stop_level}
-use Rattle.pricing.specs.Price.{as_price}
-use Rattle.pricing.specs.declared.ClearingPrice.{ClearingPrice}
+use Rattle.pricing.specs.Price.{as_price, ClearingPrice}
 use Rattle.settle.specs.inner.Read.{quoted}
 use Rattle.settle.specs.inner.Rows.{committed_from}
 use Rattle.reasons.specs.Stop.{stop_at}
 use Rattle.reasons.specs.Share.{row_share_at}
 use Rattle.ladder.specs.Ladder.{ladder_at}
 use Rattle.turns.specs.Turn.{turn_at}
-use Rattle.workings.specs.Works.{contest_at}
+use Rattle.workings.specs.Works.{contest_at, WorkedRow}
 use Rattle.workings.specs.declared.row.RowWorks.{RowWorks}
-use Rattle.workings.specs.declared.row.WorkedRow.{WorkedRow}
-use Rattle.workings.specs.declared.row.WorkedRow.TheVariants.{Row, NoRow}
 use Rattle.workings.specs.declared.works.Works.{Works}
 
 module _ (o : Offers) (x : ℕ) (price : ClearingPrice) where
@@ -32,7 +29,7 @@ module _ (o : Offers) (x : ℕ) (price : ClearingPrice) where
 
   -- a row that may not be there, by a list of leasts
   unfoldable pub worked_row_by : List ℕ → ℕ → WorkedRow
-  worked_row_by leasts row = cond (ltb row o.count) (Row (row_works_by (get_or leasts row 0) row)) NoRow
+  worked_row_by leasts row = cond (ltb row o.count) (Some (row_works_by (get_or leasts row 0) row)) None
 
 -- the workings of offers on a curve
 unfoldable pub works_at : Curve → Offers → List ℕ → (row rung place : ℕ) → Works

@@ -1,8 +1,7 @@
 -- What is refused before the rows are looked at.
 -- Assumes nothing.
 use Rattle.std.specs.Prelude.{ℕ, leb}
-use Rattle.values.specs.Refusals.{unless, and_then, wrong_layout, too_many_rows}
-use Rattle.values.specs.declared.Verdict.{Verdict}
+use Rattle.values.specs.Refusals.{unless, and_then, wrong_layout, too_many_rows, Verdict}
 use Rattle.values.specs.declared.head.Parameters.{Parameters}
 use Rattle.layout.specs.Layout.{edition_known}
 use Rattle.limits.specs.Parameters.{range_fault}

@@ -1,32 +1,27 @@
--- `opens_with` tells whether the four letters are the first four bytes. It leaves at the first that differs, and each way
--- out rewrites by the tests that led there.
+-- `opens_with` tells whether the four letters are the first four bytes.
 -- Assumes nothing.
-use borrow.Author.Tests.{eq-eqb, ne_eqb}
-use Rattle.block.specs.Bytes.{opens_with}
+use mathlib.Core.Path.{◌≡◌, ◌∙◌}
+use mathlib.Core.Bool.{◌&&◌}
+use mathlib.Core.List.{List, [], ◌∷◌}
+use Prim.Native.Nat.{ℕ}
+use native.Mathlib.Omega.{arith}
+use lib.Dec.{eqb}
+use lib.ListN.{length}
+use lib.Pointwise.{pointwise}
+use Rattle.std.proofs.Math.Bool.{and-true}
+use Rattle.block.specs.Bytes.{byte, opens_with}
 use Rattle.block.proofs.bytes.opens_with.Goals as goal
 
-pub returns-then-s-letters : goal.returns-then-s-letters
-unfolding opens_with
-returns-then-s-letters c = rw (ne_eqb _ _ c.if-s-letters.true)
-
-pub returns-then-s-letters-2 : goal.returns-then-s-letters-2
-unfolding opens_with
-returns-then-s-letters-2 c = rw (eq-eqb _ _ c.if-s-letters.false, ne_eqb _ _ c.if-s-letters-2.true)
-
-pub returns-then-s-letters-3 : goal.returns-then-s-letters-3
-unfolding opens_with
-returns-then-s-letters-3 c =
-    rw (
-      eq-eqb _ _ c.if-s-letters.false,
-      eq-eqb _ _ c.if-s-letters-2.false,
-      ne_eqb _ _ c.if-s-letters-3.true,
-    )
+-- four numbers against a list of four
+four-alike : (a b c d : ℕ) (xs : List ℕ) → length xs ≡ 4 → pointwise eqb (a ∷ b ∷ c ∷ d ∷ []) xs
+    ≡ eqb a (byte xs 0) && (eqb b (byte xs 1) && (eqb c (byte xs 2) && eqb d (byte xs 3)))
+four-alike a b c d (p ∷ q ∷ r ∷ s ∷ []) e = simp (and-true)
+four-alike a b c d (p ∷ q ∷ r ∷ s ∷ t ∷ xs) e = absurd (omega arith)
+four-alike a b c d (p ∷ q ∷ r ∷ []) e = absurd (omega arith)
+four-alike a b c d (p ∷ q ∷ []) e = absurd (omega arith)
+four-alike a b c d (p ∷ []) e = absurd (omega arith)
+four-alike a b c d [] e = absurd (omega arith)
 
 pub returns : goal.returns
 unfolding opens_with
-returns c =
-    rw (
-      eq-eqb _ _ c.if-s-letters.false,
-      eq-eqb _ _ c.if-s-letters-2.false,
-      eq-eqb _ _ c.if-s-letters-3.false,
-    )
+returns c = c.eq.ensures ∙ four-alike _ _ _ _ _ c.told-letters

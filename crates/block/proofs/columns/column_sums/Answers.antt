@@ -1,7 +1,7 @@
 -- `column_sums` runs over each column. The loop's invariant: the totals of the columns passed, added up, and their sums.
 -- Assumes nothing.
-use mathlib.Core.Path.{◌≡◌, sym, ap, ◌∙◌}
-use Prim.Native.Nat.{ℕ, ◌+◌, ◌-◌, ◌%◌}
+use mathlib.Core.Path.{◌≡◌, refl, sym, ap, ◌∙◌}
+use Prim.Native.Nat.{ℕ, ◌+◌, ◌%◌}
 use native.Mathlib.Numerals.{add-one}
 use native.Mathlib.Omega.{arith}
 use Rattle.laws.proofs.Sums.{sum_to-suc}
@@ -25,15 +25,12 @@ loop-column-preserved c =
     let s = c.args.s.now in
     let i = c.loop-column.column in (
       omega arith,
-      kept-added _ (column_total s i) c.loop-column.invariant.1 rows.ensures.total_value c.added-totals.ensures
+      kept-added _ (column_total s i) c.loop-column.invariant.1 rows.ensures.total_value refl
           ∙ kept (sym (rw (add-one, sum_to-suc))),
       filled_more _ _ _ c.loop-column.invariant.2
-          (added-kept _ _ rows.ensures.sum_value c.added.ensures
-          ∙ ap (λ (x : ℕ). (running_sum (in_column s i) 30 30 + x) % 65536) c.wide16.ensures.0),
+          (added-kept _ _ rows.ensures.sum_value refl
+          ∙ ap (λ (x : ℕ). (running_sum (in_column s i) 30 30 + x) % 65536) c.from.ensures),
     )
-
-pub shape_of-sums : goal.shape_of-sums
-shape_of-sums c = length-filling _ _ _ c.loop-column.invariant.2
 
 pub returns : goal.returns
 returns c =

@@ -6,7 +6,7 @@ use Rattle.block.proofs.Boards.{Board}
 use Rattle.block.proofs.columns.over_columns.Given as goal
 
 abbrev pub invariant-loop-i : goal.invariant-loop-i
-invariant-loop-i l = (l.i ≤ 16) × Board (λ j. get_or l.sums j 0) 16 0 0 l.i l.board.sum l.board.total
+invariant-loop-i l = (l.i ≤ 16) × Board (λ j. get_or l.sums j 0) 16 0 0 (16 - l.i) l.board.sum l.board.total
 
 abbrev pub decreases-loop-i : goal.decreases-loop-i
-decreases-loop-i l = 16 - l.i
+decreases-loop-i l = l.i

@@ -1,32 +1,23 @@
--- `over_rows` runs over one column. The loop's invariant: what the board holds after so many steps, and the place of the row.
+-- `over_rows` runs over one column. The loop's invariant: what the board holds after so many steps.
 -- Assumes nothing.
-use mathlib.Core.Path.{◌≡◌, ap, ◌∙◌}
-use Prim.Native.Nat.{suc, ◌+◌, ◌*◌, ◌-◌}
 use native.Mathlib.Omega.{arith}
-use Rattle.block.specs.Bytes.{byte}
-use Rattle.block.proofs.Boards.{board-none, board-more, board-sum, board-total}
+use Rattle.block.proofs.Boards.{board-none, board-next, board-sum, board-total}
 use Rattle.block.proofs.columns.over_rows.Goals as goal
 
-pub loop-passed-init : goal.loop-passed-init
-loop-passed-init c = (omega arith, omega arith, board-none _ _ _ _ (omega arith) (omega arith))
+pub loop-row-init : goal.loop-row-init
+loop-row-init c = (omega arith, board-none _ _ _ _ (omega arith) (omega arith))
 
-pub loop-passed-preserved : goal.loop-passed-preserved
-loop-passed-preserved c =
-    let a = c.args in
-    let place : c.loop-passed.at - 16 ≡ (30 - suc c.loop-passed.passed) * 16 + a.column + 28 = omega arith in (
-      omega arith,
-      omega arith,
-      board-more _ _ _ _ _ c.loop-passed.invariant.2
-          (c.wide16.ensures.0 ∙ ap (byte a.s.now) place)
-          c.step-board.ensures.sum_value
-          c.step-board.ensures.total_value,
-    )
+pub loop-row-preserved : goal.loop-row-preserved
+loop-row-preserved c = (
+  omega arith,
+  board-next _ _ _ _ _ (omega arith) (omega arith) c.loop-row.invariant.1 c.from.ensures
+      c.step-board.ensures.sum_value
+      c.step-board.ensures.total_value,
+)
 
 pub returns : goal.returns
 returns c =
-    let b = c.loop-passed.invariant.2 in
-    let all : c.loop-passed.passed ≡ 30 = omega arith in
     record {
-      sum_value = board-sum _ _ b all;
-      total_value = board-total _ _ b all;
+      sum_value = board-sum _ _ c.loop-row.invariant.1 (omega arith);
+      total_value = board-total _ _ c.loop-row.invariant.1 (omega arith);
     }

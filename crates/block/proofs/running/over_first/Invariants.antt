@@ -6,7 +6,7 @@ use Rattle.block.proofs.Boards.{Board}
 use Rattle.block.proofs.running.over_first.Given as goal
 
 abbrev pub invariant-loop-i : goal.invariant-loop-i
-invariant-loop-i l = (l.i ≤ 12) × Board (byte l.s) 12 l.initial.after.sum l.initial.after.total l.i l.after.sum l.after.total
+invariant-loop-i l = (l.i ≤ 12) × Board (byte l.s) 12 l.initial.after.sum l.initial.after.total (12 - l.i) l.after.sum l.after.total
 
 abbrev pub decreases-loop-i : goal.decreases-loop-i
-decreases-loop-i l = 12 - l.i
+decreases-loop-i l = l.i

@@ -1,23 +1,14 @@
--- `zeros_cause` finds the first byte that is not zero. The loop's invariant: what was found among the bytes passed.
+-- `zeros_cause` finds the first byte that is not zero. The loop's invariant: each one passed holds.
 -- Assumes nothing.
-use mathlib.Core.Path.{sym, ap, ◌∙◌}
-use Prim.Native.Nat.{◌-◌}
-use native.Mathlib.Omega.{arith}
-use borrow.Author.Rules.{rules}
-use Rattle.values.proofs.Firsts.{first-zero}
-use Rattle.values.specs.Refusals.{first}
+use mathlib.Core.Path.{sym, ◌∙◌}
+use Rattle.std.proofs.lemmas.Result.{err_from_is_err_and}
+use Rattle.values.proofs.Firsts.{first-refused}
 use Rattle.causes.specs.Cause.{zeros_cause}
-use Rattle.causes.proofs.Passes.{first_next}
 use Rattle.causes.proofs.tests.zeros_cause.Goals as goal
 
-pub loop-i-init : goal.loop-i-init
-loop-i-init c = (search rules, sym (first-zero _))
-
-pub loop-i-preserved : goal.loop-i-preserved
-loop-i-preserved c =
-    let found = c.loop-i.invariant.1 in
-    (search rules, first_next _ _ found c.told.ensures c.and_then-found.ensures)
-
-pub returns : goal.returns
+pub returns-in_err-told : goal.returns-in_err-told
 unfolding zeros_cause
-returns c = c.loop-i.invariant.1 ∙ ap (first _) (omega arith)
+returns-in_err-told c =
+    let failed = err_from_is_err_and c.from_residual.result c.from_residual.ensures.1 in
+    rw (failed.1, failed.2)
+    (sym (first-refused _ _ _ _ c.loop-i-test.true c.loop-i.invariant.1 (sym c.told.ensures ∙ c.in_err-told.was)))

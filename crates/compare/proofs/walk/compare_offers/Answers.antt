@@ -1,6 +1,5 @@
 -- `compare_offers` walks both books from one row at or below the price to the next. The loop's invariant: all offers before agree.
 -- Assumes nothing.
-use Prim.Native.Nat.{◌-◌}
 use native.Mathlib.Numerals.{add-one}
 use native.Mathlib.Omega.{arith}
 use Rattle.compare.proofs.BookWalks.{walk_none, walk_more, walk-differ, walk_first, walk-second, walk-all}

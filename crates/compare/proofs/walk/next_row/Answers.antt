@@ -1,6 +1,5 @@
 -- `next_row` passes over the rows above the price. The loop's invariant: no row passed was at or below it.
 -- Assumes nothing.
-use Prim.Native.Nat.{◌-◌}
 use mathlib.Core.Path.{◌≡◌, sym, ap, ◌∙◌}
 use native.Mathlib.Numerals.{add-one}
 use native.Mathlib.Omega.{arith}
@@ -18,17 +17,13 @@ pub loop-row-init : goal.loop-row-init
 loop-row-init c =
     passed_none _ _ _ (omega (arith, length-row_offers c.args.book.now (edition_of c.args.book.now) 1 c.args.n, c.requires.1))
 
-pub offer_at-o-requires : goal.offer_at-o-requires
-offer_at-o-requires c = c.requires.0.within c.loop-row.row c.loop-row-test.true
-
 -- what the test says of the book's own offer
 tested : (c : After-to_price) →
     let a = c.args in
     c.to_price.result ≡ to_price a.price (offer_at (row_offers a.book.now (edition_of a.book.now) 1 a.n) c.loop-row.row).price
 tested c =
     c.to_price.ensures
-    ∙ ap (λ (o : Offer). to_price c.args.price o.price)
-    (c.offer_at-o.ensures ∙ sym (offer_at-row_offers _ _ _ _ _ c.loop-row-test.true))
+    ∙ ap (λ (o : Offer). to_price c.args.price o.price) (c.offer_at.ensures ∙ sym (offer_at-row_offers _ _ _ _ _ c.loop-row-test.true))
 
 pub returns-then-to_price : goal.returns-then-to_price
 returns-then-to_price c =

@@ -11,5 +11,5 @@ returns-then-k-c c = sym (exact-level c.args.c c.args.k c.if-k-c.true)
 pub returns-then-k-c-2 : goal.returns-then-k-c-2
 returns-then-k-c-2 c = c.between.ensures ∙ sym (exact-first c.args.c c.args.k (omega arith) (omega arith))
 
-pub returns : goal.returns
-returns c = c.between-2.ensures ∙ sym (exact-second c.args.c c.requires.0 c.args.k (omega arith))
+pub returns-else-k-c-2 : goal.returns-else-k-c-2
+returns-else-k-c-2 c = c.between-else-k-c-2.ensures ∙ sym (exact-second c.args.c c.requires.0 c.args.k (omega arith))

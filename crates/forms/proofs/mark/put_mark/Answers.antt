@@ -1,32 +1,34 @@
 -- `put_mark` puts nothing, a number or the byte, as its tests say.
 -- Assumes nothing.
-use mathlib.Core.Path.{sym, ◌∙◌}
+use mathlib.Core.Path.{◌≡◌}
+use mathlib.Core.Bool.{cond}
+use mathlib.Core.List.{[], ◌∷◌}
+use Prim.Native.Nat.{◌+◌}
 use native.Mathlib.Omega.{arith}
-use Rattle.forms.specs.Mark.{is_silent}
+use Rattle.std.proofs.lemmas.Grind.{common_steps}
+use Rattle.text.specs.Put.{right_text}
+use Rattle.forms.specs.Mark.{byte_text, next_text}
 use Rattle.forms.proofs.Puts.{put-none}
-use Rattle.forms.proofs.Fillings.{byte-hidden, byte-number, byte-plain}
 use Rattle.forms.proofs.mark.put_mark.Goals as goal
 
-pub returns-then-shown-mark : goal.returns-then-shown-mark
-unfolding is_silent
-returns-then-shown-mark c =
+pub returns-then-is_silent : goal.returns-then-is_silent
+unfolding byte_text
+returns-then-is_silent c =
     let a = c.args in
-    rw (byte-hidden a.shown a.width a.mark _ c.if-shown-mark.true) (put-none _ _ (omega arith))
+    let e : cond a.shown (byte_text a.width a.mark a.numbers.now) [] ≡ [] = grind (arith, common_steps) in
+    rw e (put-none _ _ (omega arith))
 
 pub returns-then-is_number : goal.returns-then-is_number
-unfolding is_silent
+unfolding byte_text
 returns-then-is_number c =
     let a = c.args in
-    let seen = c.if-shown-mark.false in
-    let tested = sym c.is_number.ensures ∙ c.if-is_number.true in
-    rw (byte-number a.shown a.width a.mark _ seen tested)
-    c.put_next.ensures
+    let e : cond a.shown (byte_text a.width a.mark a.numbers.now) [] ≡ right_text (a.width + 1) 32 (next_text a.mark a.numbers.now) =
+    grind (arith, common_steps) in
+    rw e c.put_next.ensures
 
 pub returns-else-is_number : goal.returns-else-is_number
-unfolding is_silent
+unfolding byte_text
 returns-else-is_number c =
     let a = c.args in
-    let seen = c.if-shown-mark.false in
-    let tested = sym c.is_number.ensures ∙ c.if-is_number.false in
-    rw (byte-plain a.shown a.width a.mark _ seen tested)
-    c.put_byte.ensures
+    let e : cond a.shown (byte_text a.width a.mark a.numbers.now) [] ≡ a.mark ∷ [] = grind (arith, common_steps) in
+    rw e c.put_byte.ensures

@@ -7,6 +7,6 @@ use Rattle.headpage.proofs.division.put_contest.Goals as goal
 pub returns : goal.returns
 unfolding contest_parts
 returns c =
-    rw (← c.excess.ensures)
+    rw (← c.saturating_sub.ensures)
     (shows_more _ _ _ c.put_left_before-before.ensures
     (shows_then _ _ _ _ _ _ _ _ c.put_places-places.ensures (shows-one c.put_left_behind.ensures)))

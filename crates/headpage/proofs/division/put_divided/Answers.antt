@@ -9,12 +9,12 @@ pub returns-then-level : goal.returns-then-level
 unfolding divided_parts
 returns-then-level c = rw c.if-level.true (shows-none _ _)
 
-pub returns-then-spares-eq0 : goal.returns-then-spares-eq0
+pub returns-then-contest-eq0 : goal.returns-then-contest-eq0
 unfolding divided_parts
-returns-then-spares-eq0 c =
-    rw (c.if-level.false, eq-eqb _ 0 c.if-spares-eq0.true) (shows-one c.put_division-divided.ensures)
+returns-then-contest-eq0 c =
+    rw (c.if-level.false, eq-eqb _ 0 c.if-contest-eq0.true) (shows-one c.put_division-divided.ensures)
 
 pub returns : goal.returns
 unfolding divided_parts
 returns c =
-    rw (c.if-level.false, ne_eqb _ 0 c.if-spares-eq0.false) (shows_more _ _ _ c.put_division-divided.ensures c.put_contest.ensures)
+    rw (c.if-level.false, ne_eqb _ 0 c.if-contest-eq0.false) (shows_more _ _ _ c.put_division-divided.ensures c.put_contest.ensures)

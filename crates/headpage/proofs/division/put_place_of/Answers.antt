@@ -3,8 +3,8 @@
 use Rattle.forms.proofs.Shows.{shows-none, shows-one}
 use Rattle.headpage.proofs.division.put_place_of.Goals as goal
 
-pub returns-in-Held : goal.returns-in-Held
-returns-in-Held c = rw (← c.placed_of.ensures, c.in-Held.is) (shows-one c.put_place.ensures)
+pub returns-in-Some : goal.returns-in-Some
+returns-in-Some c = rw (← c.placed_of.ensures, c.in-Some.is) (shows-one c.put_place.ensures)
 
-pub returns-in-NoOne : goal.returns-in-NoOne
-returns-in-NoOne c = rw (← c.placed_of.ensures, c.in-NoOne.is) (shows-none _ _)
+pub returns-in-None : goal.returns-in-None
+returns-in-None c = rw (← c.placed_of.ensures, c.in-None.is) (shows-none _ _)

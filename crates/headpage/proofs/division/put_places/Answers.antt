@@ -17,4 +17,4 @@ loop-j-preserved c =
 pub returns : goal.returns
 unfolding places_parts
 returns c =
-    rw (← c.excess-first.ensures, ← c.lesser.ensures) (parts-counted _ _ _ _ _ (omega arith) c.loop-j.invariant.2)
+    rw (← c.saturating_sub-first.ensures, ← c.min.ensures) (parts-counted _ _ _ _ _ (omega arith) c.loop-j.invariant.2)

@@ -3,8 +3,8 @@
 use mathlib.Core.Path.{refl}
 use Rattle.headpage.proofs.facts.placed_of.Goals as goal
 
-pub returns-in-Worked : goal.returns-in-Worked
-returns-in-Worked c = rw (← c.workings.ensures, c.in-Worked.is) refl
+pub returns-in-Ok : goal.returns-in-Ok
+returns-in-Ok c = rw (← c.workings.ensures, c.in-Ok.is) refl
 
-pub returns-in-Refused : goal.returns-in-Refused
-returns-in-Refused c = rw (← c.workings.ensures, c.in-Refused.is) refl
+pub returns-in-Err : goal.returns-in-Err
+returns-in-Err c = rw (← c.workings.ensures, c.in-Err.is) refl

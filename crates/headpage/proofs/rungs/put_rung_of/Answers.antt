@@ -3,8 +3,8 @@
 use Rattle.forms.proofs.Shows.{shows-none, shows-one}
 use Rattle.headpage.proofs.rungs.put_rung_of.Goals as goal
 
-pub returns-in-Reached : goal.returns-in-Reached
-returns-in-Reached c = rw (← c.ladder_of-ladder.ensures, c.in-Reached.is) (shows-one c.put_rung.ensures)
+pub returns-in-Some : goal.returns-in-Some
+returns-in-Some c = rw (← c.ladder_of.ensures, c.in-Some.is) (shows-one c.put_rung.ensures)
 
-pub returns-in-NoRung : goal.returns-in-NoRung
-returns-in-NoRung c = rw (← c.ladder_of-ladder.ensures, c.in-NoRung.is) (shows-none _ _)
+pub returns-in-None : goal.returns-in-None
+returns-in-None c = rw (← c.ladder_of.ensures, c.in-None.is) (shows-none _ _)

@@ -1,12 +1,13 @@
 -- `rung_price` goes up. The loop's invariant: what is left to go from here leads to the same price.
 -- Assumes nothing.
 use mathlib.Core.Path.{◌≡◌}
+use Prim.Native.Nat.{◌-◌}
+use lib.ListN.{length}
 use Rattle.ladder.specs.Prices.{rung_price}
 use Rattle.ladder.specs.inner.Found.{price_at}
 use Rattle.ladder.proofs.price.rung_price.Given as goal
 
-abbrev pub invariant-loop-left : goal.invariant-loop-left
-invariant-loop-left l = rung_price (price_at l.prices) l.n l.k l.from ≡ rung_price (price_at l.prices) l.n l.left l.at
-
-abbrev pub decreases-loop-left : goal.decreases-loop-left
-decreases-loop-left l = l.left
+abbrev pub invariant-loop : goal.invariant-loop
+invariant-loop l =
+    rung_price (price_at l.prices) (length l.prices) l.k l.from
+    ≡ rung_price (price_at l.prices) (length l.prices) (l.k - l.counter) l.at

@@ -5,9 +5,9 @@ use Rattle.ladder.proofs.Rungs.{stop-cheap, ladder-is}
 use Rattle.ladder.proofs.rung.ladder_at.Goals as goal
 
 pub overflow_add-stop : goal.overflow_add-stop
-overflow_add-stop c = record { fits = omega (arith, stop-cheap _ _ _ c.requires.1) }
+overflow_add-stop c = record { fits = omega (arith, stop-cheap _ _ _ c.requires) }
 
 pub returns : goal.returns
 returns c =
-    ladder-is _ _ _ _ _ _ _ c.requires.1
+    ladder-is _ _ _ _ _ _ _ c.requires
     c.down_from-from.ensures c.supply_below.ensures.0 c.rung_at.ensures

@@ -5,7 +5,7 @@ use Rattle.ladder.proofs.rung.rung_of.Goals as goal
 
 pub returns : goal.returns
 returns c =
-    rung-is _ _ _ _ _ _ _ _ _ _ c.requires.cheap
+    rung-is _ _ _ _ _ _ _ _ _ _ c.args.asks.now.listed.cheap
     c.supply_below-below.ensures.0 c.supply_at-reach.ensures.0 c.supply_at.ensures.0
-    c.excess-offered.ensures c.excess.ensures
-    c.lesser.ensures c.excess-2.ensures
+    c.saturating_sub-offered.ensures c.saturating_sub.ensures
+    c.min.ensures c.saturating_sub-2.ensures

@@ -2,7 +2,6 @@
 -- Assumes nothing.
 use mathlib.Core.Bool.{not}
 use mathlib.Core.Path.{◌≡◌, sym, ap, ◌∙◌}
-use Prim.Native.Nat.{◌-◌}
 use native.Mathlib.Omega.{arith}
 use borrow.Author.Rules.{rules}
 use Rattle.block.specs.Check.{check_holds}
@@ -27,7 +26,7 @@ pub returns-then-not-check_holds : goal.returns-then-not-check_holds
 unfolding check_fault
 returns-then-not-check_holds c =
     sym
-    (first-refused _ _ _ 2 _ (omega arith)
+    (first-refused _ _ _ _ (omega arith)
     c.loop-k.invariant.1
     (unless-failed _ (as-block (goal.at.returns-then-not-check_holds c).After-check_holds) (ap not c.if-not-check_holds.true)))
 

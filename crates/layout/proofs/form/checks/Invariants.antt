@@ -4,9 +4,7 @@ use mathlib.Core.Path.{◌≡◌}
 use mathlib.Core.List.{List}
 use Prim.Native.Nat.{ℕ, ◌≤◌, ◌-◌}
 use Rattle.block.specs.Check.{check_holds}
-use Rattle.values.specs.Refusals.{first, unless, wrong_check}
-use Rattle.values.specs.declared.Verdict.{Verdict}
-use Rattle.values.specs.declared.Verdict.TheVariants.{Passed}
+use Rattle.values.specs.Refusals.{first, unless, wrong_check, Verdict, no_fault}
 use Rattle.sections.specs.Blocks.{block_of}
 use Rattle.layout.proofs.form.checks.Given as goal
 
@@ -14,7 +12,7 @@ abbrev pub check_at : List ℕ → ℕ → Verdict
 check_at b k = unless (check_holds (block_of b k)) (wrong_check k)
 
 abbrev pub invariant-loop-k : goal.invariant-loop-k
-invariant-loop-k l = (l.k ≤ l.blocks) × (first (check_at l.book) l.k ≡ Passed)
+invariant-loop-k l = (l.k ≤ l.blocks) × (first (check_at l.book) l.k ≡ no_fault)
 
 abbrev pub decreases-loop-k : goal.decreases-loop-k
 decreases-loop-k l = l.blocks - l.k

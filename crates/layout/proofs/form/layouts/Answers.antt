@@ -23,7 +23,7 @@ as-head c = c.head_holds.ensures ∙ ap (head_holds _) c.requires.0
 pub returns-then-not-head_holds : goal.returns-then-not-head_holds
 unfolding layout_fault
 returns-then-not-head_holds c =
-    sym (and_then-refused _ _ 3 0 (unless-failed _ (as-head (goal.at.returns-then-not-head_holds c).After-head_holds) (ap not c.if-not-head_holds.true)))
+    sym (and_then-refused _ _ _ (unless-failed _ (as-head (goal.at.returns-then-not-head_holds c).After-head_holds) (ap not c.if-not-head_holds.true)))
 
 -- past the test of block 0 the number of offers fits
 counted : (c : Else-not-head_holds) →

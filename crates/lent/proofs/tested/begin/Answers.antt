@@ -2,11 +2,11 @@
 -- Assumes nothing.
 use mathlib.Core.Path.{ap, ◌∙◌}
 use Rattle.values.specs.Contents.{no_offer}
-use Rattle.values.specs.declared.Verdict.{Verdict}
 use Rattle.values.specs.declared.head.Parameters.{Parameters}
 use Rattle.writer.specs.inner.Opening.{opening_fault}
 use Rattle.lent.specs.inner.Drafts.{before_of, draft_by, draft_of}
 use Rattle.lent.proofs.tested.begin.Goals as goal
+use Rattle.values.specs.Refusals.{Verdict}
 
 pub returns : goal.returns
 unfolding draft_of

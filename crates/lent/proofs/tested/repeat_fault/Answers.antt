@@ -20,10 +20,10 @@ halves c =
     repeat-halves c.args.d kept _ _ c.requires.0 (ap (λ (k : ℕ). take k kept) (sub-zero (length kept / 2)))
     (take_all (length kept - length kept / 2) (drop (length kept / 2) kept) (omega (arith, length-drop (length kept / 2) kept))) c.first_repeat-repeat.ensures.0
 
-pub returns-then-repeat-rows : goal.returns-then-repeat-rows
-returns-then-repeat-rows c =
-    repeated-here _ _ (halves (goal.at.returns-then-repeat-rows c).After-first_repeat-repeat) c.if-repeat-rows.true
+pub returns-then-repeat-d : goal.returns-then-repeat-d
+returns-then-repeat-d c =
+    repeated-here _ _ (halves (goal.at.returns-then-repeat-d c).After-first_repeat-repeat) c.if-repeat-d.true
 
 pub returns : goal.returns
 returns c =
-    repeated-none _ _ (halves (goal.at.returns c).After-first_repeat-repeat) (omega (arith, c.if-repeat-rows.false))
+    repeated-none _ _ (halves (goal.at.returns c).After-first_repeat-repeat) (omega (arith, c.if-repeat-d.false))

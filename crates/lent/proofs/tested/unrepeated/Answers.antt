@@ -1,9 +1,9 @@
 -- `unrepeated` keeps the rows where no repeat is refused.
 -- Assumes nothing.
 use mathlib.Core.Path.{ap, ◌∙◌}
-use Rattle.values.specs.declared.Verdict.{Verdict}
 use Rattle.lent.specs.inner.Drafts.{draft_by}
 use Rattle.lent.proofs.tested.unrepeated.Goals as goal
+use Rattle.values.specs.Refusals.{Verdict}
 
 pub returns : goal.returns
 returns c =

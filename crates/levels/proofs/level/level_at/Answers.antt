@@ -6,9 +6,9 @@ use Rattle.levels.proofs.level.level_at.Goals as goal
 pub returns : goal.returns
 returns c =
     record {
-      total = rw c.lesser.ensures at c.reached-total.ensures;
+      total = rw c.min.ensures at c.reached-total.ensures;
       price = refl;
-      amount = c.lesser-2.ensures;
+      amount = c.min-2.ensures;
       sum = refl;
       reach = refl;
     }

@@ -8,6 +8,6 @@ pub returns-then-level-eq1000000 : goal.returns-then-level-eq1000000
 unfolding stops_there
 returns-then-level-eq1000000 c = simp (eq-eqb _ _ c.if-level-eq1000000.true)
 
-pub returns : goal.returns
+pub returns-else-level-eq1000000 : goal.returns-else-level-eq1000000
 unfolding stops_there
-returns c = simp (ne_eqb _ _ c.if-level-eq1000000.false)
+returns-else-level-eq1000000 c = simp (ne_eqb _ _ c.if-level-eq1000000.false)

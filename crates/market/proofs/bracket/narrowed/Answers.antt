@@ -10,7 +10,7 @@ returns-then-bought c =
     let offered = c.supply_at-offered.ensures.0 in
     let d = demand_of c.args.c in
     let meets = c.bought.ensures c.if-bought.true in (
-      under-over d _ c.args.b c.args.price _ c.requires.shaped.2.high (omega arith) offered meets.0
+      under-over d _ c.args.b c.args.price _ c.requires.shaped.1.high (omega arith) offered meets.0
           (supplied-at d _ c.args.price _ (le_of_eq offered) meets.1),
       record { from = omega arith; ordered = omega arith; less = omega arith },
     )

@@ -1,11 +1,11 @@
 -- `market::total::cleared_level` is the level at which the cleared total stops. The loop's invariant: the total is no less than
 -- what is offered below the bracket.
 -- Assumes nothing.
-use Rattle.std.proofs.Common.{◌≡◌, ◌-◌, ◌<◌, ◌≤◌, false, sym, ◌∙◌, arith}
+use Rattle.std.proofs.Common.{◌≡◌, ◌<◌, ◌≤◌, false, sym, ◌∙◌, arith}
 use Rattle.auction.specs.Offers.{Offers, supply_below}
 use Rattle.curve.specs.Price.{demand_of, tenth_price}
 use Rattle.curve.proofs.Prices.{curve-falls, price-most}
-use Rattle.levels.specs.inner.Rows.{listed}
+use Rattle.levels.specs.inner.Asks.{offers_in}
 use Rattle.levels.specs.inner.Reach.{stops_there}
 use Rattle.levels.proofs.Reaching.{goes-past}
 use Rattle.market.proofs.Narrowing.{under_whole, below_next}
@@ -15,19 +15,19 @@ use Rattle.market.proofs.total.cleared_level.Goals.{After-supply_at-reach, Else-
 
 -- the offers of the rows
 abbrev offers : After-supply_at-reach → Offers
-offers c = listed c.args.prices.now c.args.quantities.now c.args.n
+offers c = offers_in c.args.asks.now
 
 -- the curve asks no more than 1,000,000
 capped : (c : Start) → tenth_price c.args.c 0 ≤ 1000000
-capped c = omega (arith, price-most c.args.c c.requires.0 0, c.requires.0.price-most)
+capped c = omega (arith, price-most c.args.c c.requires 0, c.requires.price-most)
 
 -- what is offered below the next price, and that it is no more than what is offered up to it
 below : (c : After-supply_at-reach)
     → supply_below (offers c) c.next_tried-price.result
     ≡ c.narrow-at.result.below
 below c =
-    let a = c.args in
-    below_next (demand_of a.c) a.prices.now a.quantities.now a.n c.narrow-at.result c.next_tried-price.result
+    let asks = c.args.asks.now in
+    below_next (demand_of c.args.c) asks.prices.now asks.quantities.now _ c.narrow-at.result c.next_tried-price.result
     c.narrow-at.ensures.0 c.next_tried-price.ensures
 
 upto : (c : After-supply_at-reach) → c.narrow-at.result.below ≤ c.supply_at-reach.result
@@ -36,18 +36,18 @@ upto c = below-upto _ c.next_tried-price.result _ _ (below c) c.supply_at-reach.
 pub narrowed-at-requires : goal.narrowed-at-requires
 narrowed-at-requires c =
     record {
-      shaped = (c.requires.0, c.requires.1, under_whole _ _ _ _ (omega arith));
+      shaped = (c.requires, under_whole _ _ _ _ (omega arith));
       from_le_price = (omega arith, omega arith);
     }
 
 pub level_at-level-requires : goal.level_at-level-requires
 level_at-level-requires c =
-    (c.requires.0, upto (goal.at.level_at-level-requires c).After-supply_at-reach, c.narrow-at.ensures.0.within)
+    (c.requires, upto (goal.at.level_at-level-requires c).After-supply_at-reach, c.narrow-at.ensures.0.within)
 
 pub returns-then-stops : goal.returns-then-stops
 returns-then-stops c =
     let at = goal.at.returns-then-stops c in (
-      reached-stops (demand_of c.args.c) (offers at.After-supply_at-reach) (curve-falls _ c.requires.0) _ c.narrow-at.ensures.0 _ _
+      reached-stops (demand_of c.args.c) (offers at.After-supply_at-reach) (curve-falls _ c.requires) _ c.narrow-at.ensures.0 _ _
           (below at.After-supply_at-reach) c.supply_at-reach.ensures.0 _ c.level_at-level.ensures
           (capped at.Start) c.next_tried-price.ensures.high (sym c.stops.ensures ∙ c.if-stops.true),
       omega (arith, c.level_at-level.ensures.total.end),
@@ -69,5 +69,5 @@ loop-c-smaller c =
 pub loop-c-preserved : goal.loop-c-preserved
 loop-c-preserved c =
     let at = goal.at.loop-c-preserved c in
-    reached-all (demand_of c.args.c) (offers at.After-supply_at-reach) (curve-falls _ c.requires.0) _ c.narrow-at.ensures.0 _ _
+    reached-all (demand_of c.args.c) (offers at.After-supply_at-reach) (curve-falls _ c.requires) _ c.narrow-at.ensures.0 _ _
     (below at.After-supply_at-reach) c.supply_at-reach.ensures.0 _ c.level_at-level.ensures (past at.Else-stops) (under-most at.Else-stops)

@@ -4,10 +4,10 @@ use mathlib.Core.Path.{◌∙◌}
 use Rattle.ozpinduru.proofs.Exports.{given-ranged, price-refused, price-made}
 use Rattle.ozpinduru.proofs.export.ozp_price_at.Goals as goal
 
-pub returns-in-Refused : goal.returns-in-Refused
-returns-in-Refused c =
-    c.price_refused.ensures
-    ∙ price-refused _ _ c.parameters_in-p.ensures _ c.parameters_verdict.ensures _ _ _ c.in-Refused.is
+pub returns-in-Err : goal.returns-in-Err
+returns-in-Err c =
+    rw (c.price_refused.ensures, c.number.ensures, c.place.ensures)
+    (price-refused _ _ c.parameters_in-p.ensures _ c.parameters_verdict.ensures _ _ c.in-Err.is)
 
 pub region_curve-requires : goal.region_curve-requires
 region_curve-requires c =

@@ -7,12 +7,10 @@ use Rattle.ozpinduru.proofs.read.ozp_read.Goals as goal
 
 pub loop-i-init : goal.loop-i-init
 loop-i-init c =
-    let counted : c.filled-n.result ≡ rows_filled (exported_contents c.args.book.now (length c.args.rows.now)) = c.filled-n.ensures ∙ ap rows_filled c.contents-c.ensures in
+    let counted : c.filled-i-end.result ≡ rows_filled (exported_contents c.args.book.now (length c.args.rows.now)) = c.filled-i-end.ensures ∙ ap rows_filled c.contents-c.ensures in
     record {
-      within = omega arith;
-      inside = by_order c.filled-n.result (length c.args.rows.now) (λ l. l)
+      inside = by_order c.filled-i-end.result (length c.args.rows.now) (λ l. l)
           (λ l. let past = entered-entry c.args.book.now (length c.args.rows.now) (length c.args.rows.now) (omega arith) in omega arith);
-      told = c.contents-c.ensures;
       counted = counted;
       filled = sym (filled_none (row_out c.args.book.now) c.args.rows.now);
     }
@@ -22,9 +20,7 @@ row_at-requires c = entered-row c.args.book.now (length c.args.rows.now) c.loop-
 
 pub loop-i-preserved : goal.loop-i-preserved
 loop-i-preserved c = record {
-  within = omega arith;
   inside = omega (arith, length-set c.loop-i.rows c.loop-i.i c.row_at.result);
-  told = c.loop-i.invariant.told;
   counted = c.loop-i.invariant.counted;
   filled = rw (c.loop-i.invariant.filled, c.row_at.ensures, add-one) (filled_next (row_out c.args.book.now) c.loop-i.i c.args.rows.now);
 }

@@ -4,10 +4,8 @@ use Rattle.lent.proofs.Placing.{placed-none, placed-next}
 use Rattle.ozpinduru.proofs.write.put_rows.Goals as goal
 
 pub loop-i-init : goal.loop-i-init
-loop-i-init c = record { within = omega arith; stand = placed-none c.args.edition c.args.room.now c.args.rows.now }
+loop-i-init c = placed-none c.args.edition c.args.room.now c.args.rows.now
 
 pub loop-i-preserved : goal.loop-i-preserved
-loop-i-preserved c = record {
-  within = omega arith;
-  stand = rw add-one (c.put_row.ensures ∙ rw c.loop-i.invariant.stand (placed-next c.args.edition c.args.room.now c.args.rows.now c.loop-i.i _ (omega arith)));
-}
+loop-i-preserved c =
+    rw add-one (c.put_row.ensures ∙ rw c.loop-i.invariant (placed-next c.args.edition c.args.room.now c.args.rows.now c.loop-i.i _ (omega arith)))

@@ -8,14 +8,14 @@ pub returns-in_default : goal.returns-in_default
 unfolding row_page_parts
 returns-in_default c = rw (← c.head_of.ensures, c.in_default.is) (shows-none _ _)
 
-pub returns-in-Worked : goal.returns-in-Worked
+pub returns-in-Ok : goal.returns-in-Ok
 unfolding row_page_parts
-returns-in-Worked c =
-    rw (← c.head_of.ensures, c.in-Stated.is, ← c.workings.ensures, c.in-Worked.is)
+returns-in-Ok c =
+    rw (← c.head_of.ensures, c.in-Some.is, ← c.workings.ensures, c.in-Ok.is)
     c.put_row_of.ensures
 
-pub returns-in-Refused : goal.returns-in-Refused
+pub returns-in-Err : goal.returns-in-Err
 unfolding row_page_parts
-returns-in-Refused c =
-    rw (← c.head_of.ensures, c.in-Stated.is, ← c.workings.ensures, c.in-Refused.is)
+returns-in-Err c =
+    rw (← c.head_of.ensures, c.in-Some.is, ← c.workings.ensures, c.in-Err.is)
     c.put_stated_row.ensures

@@ -1,15 +1,12 @@
 -- `put_u16` puts two bytes.
 -- Assumes nothing.
-use Prim.Native.Nat.{◌%◌}
-use Rattle.encoding.specs.Numbers.{u16_bytes}
-use lib.ListN.{length-set}
-use Rattle.places.proofs.Puts.{put-pair}
+use mathlib.Core.Path.{◌∙◌}
 use native.Mathlib.Omega.{arith}
+use Rattle.places.proofs.Puts.{put-copied}
+use Rattle.places.proofs.Fields.{bytes-u16, length-u16}
 use Rattle.places.proofs.bytes.put_u16.Goals as goal
 
-pub bounds-b-at-2 : goal.bounds-b-at-2
-bounds-b-at-2 c = omega (arith, length-set c.args.b.now c.args.at (c.args.n % 256), c.requires)
-
 pub returns : goal.returns
-unfolding u16_bytes
-returns c = put-pair c.args.b.now c.args.at _ _ c.requires
+returns c =
+    let n = c.args.n in
+    put-copied _ _ _ (c.copy_from_slice.ensures.after ∙ c.to_le_bytes.ensures ∙ bytes-u16 n) (omega (arith, length-u16 n))

@@ -1,9 +1,12 @@
--- `put_u32` puts two halves of 16 bits.
+-- `put_u32` puts four bytes.
 -- Assumes nothing.
-use Rattle.places.proofs.Fields.{put-u32}
+use mathlib.Core.Path.{◌∙◌}
+use native.Mathlib.Omega.{arith}
+use Rattle.places.proofs.Puts.{put-copied}
+use Rattle.places.proofs.Fields.{bytes-u32, length-u32}
 use Rattle.places.proofs.bytes.put_u32.Goals as goal
 
 pub returns : goal.returns
 returns c =
-    let a = c.args in
-    put-u32 a.b.now a.at a.n c.requires c.put_u16.ensures c.put_u16-2.ensures
+    let n = c.args.n in
+    put-copied _ _ _ (c.copy_from_slice.ensures.after ∙ c.to_le_bytes.ensures ∙ bytes-u32 n) (omega (arith, length-u32 n))

@@ -1,13 +1,14 @@
 -- `value_in` reads a value by its kind.
 -- Assumes nothing.
+use native.Mathlib.Omega.{arith}
 use Rattle.plain.proofs.Shows.{value-given, value-missing, value-neither}
 use Rattle.plain.proofs.given.value_in.Goals as goal
 
-pub returns-then-v-eq1 : goal.returns-then-v-eq1
-returns-then-v-eq1 c = value-given _ c.if-v-eq1.true
+pub returns-in-1 : goal.returns-in-1
+returns-in-1 c = value-given _ c.in-1.is
 
-pub returns-then-v-eq4 : goal.returns-then-v-eq4
-returns-then-v-eq4 c = value-missing _ c.if-v-eq4.true
+pub returns-in-4 : goal.returns-in-4
+returns-in-4 c = value-missing _ c.in-4.is
 
-pub returns : goal.returns
-returns c = value-neither _ c.if-v-eq1.false c.if-v-eq4.false
+pub returns-in_default : goal.returns-in_default
+returns-in_default c = value-neither _ (λ e. omega arith) (λ e. omega arith)

@@ -3,7 +3,6 @@
 -- Assumes nothing.
 use mathlib.Core.Path.{refl, sym, ap, ap₂, ◌∙◌}
 use mathlib.Core.Bool.{◌&&◌}
-use Prim.Native.Nat.{◌-◌}
 use native.Mathlib.Numerals.{add-one}
 use native.Mathlib.Omega.{arith}
 use borrow.Author.Tests.{lt-ltb}
@@ -13,16 +12,16 @@ use Rattle.laws.proofs.Everys.{every-zero, every-suc}
 use Rattle.reading.proofs.lanes.steps_hold.Goals as goal
 
 pub returns-then-n-eq0 : goal.returns-then-n-eq0
-returns-then-n-eq0 c = let none = c.if-n-eq0.true in rw none (sym (every-zero _))
+returns-then-n-eq0 g c = let none = c.if-n-eq0.true in rw none (sym (every-zero _))
 
 pub loop-row-init : goal.loop-row-init
-loop-row-init c = (
+loop-row-init g c = (
   (omega arith, omega arith),
   sym (every-suc _ 0 ∙ ap₂ ◌&&◌ (every-zero _) refl),
 )
 
 pub loop-row-preserved : goal.loop-row-preserved
-loop-row-preserved c = (
+loop-row-preserved g c = (
   (omega arith, omega arith),
   rw (add-one, every-suc)
       (ap₂ ◌&&◌ c.loop-row.invariant.1
@@ -30,4 +29,4 @@ loop-row-preserved c = (
 )
 
 pub returns : goal.returns
-returns c = c.loop-row.invariant.1 ∙ ap (every _) (omega arith)
+returns g c = c.loop-row.invariant.1 ∙ ap (every _) (omega arith)

@@ -2,12 +2,9 @@
 -- of which row 0 is one.
 -- Assumes nothing.
 use mathlib.Core.Path.{◌≡◌}
-use Prim.Native.Nat.{◌≤◌, ◌-◌}
+use Prim.Native.Nat.{◌≤◌}
 use Rattle.reading.specs.inner.Lanes.{steps_hold}
 use Rattle.reading.proofs.lanes.steps_hold.Given as goal
 
 abbrev pub invariant-loop-row : goal.invariant-loop-row
-invariant-loop-row l = ((1 ≤ l.row) × (l.row ≤ l.n)) × (l.all ≡ steps_hold l.prices l.resources l.steps l.row)
-
-abbrev pub decreases-loop-row : goal.decreases-loop-row
-decreases-loop-row l = l.n - l.row
+invariant-loop-row g l = ((1 ≤ l.row) × (l.row ≤ l.n)) × (l.all ≡ steps_hold l.columns.prices l.columns.resources l.columns.steps l.row)

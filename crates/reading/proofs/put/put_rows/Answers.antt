@@ -2,78 +2,37 @@
 -- the rows passed.
 -- Assumes nothing.
 use mathlib.Core.Path.{◌≡◌}
-use Prim.Native.Nat.{ℕ, ◌-◌}
+use Prim.Native.Nat.{ℕ}
 use native.Mathlib.Omega.{arith}
 use borrow.Author.Rules.{rules}
-use Rattle.laws.proofs.Filling.{length-filling, in-filling}
 use Rattle.values.specs.declared.place.Offer.{Offer}
 use Rattle.values.specs.Contents.{offer_at}
 use Rattle.layout.specs.Read.{row_offers}
 use Rattle.layout.proofs.Contained.{offer-of-row}
 use Rattle.reading.proofs.Puts.{put-none, put-more, put-end}
+use Rattle.reading.proofs.put.put_rows.Given.{Over}
 use Rattle.reading.proofs.put.put_rows.Goals as goal
 use Rattle.reading.proofs.put.put_rows.Goals.{After-offer_in-o}
 
 pub loop-row-init : goal.loop-row-init
-loop-row-init c = (search rules, put-none _ _)
+loop-row-init g c = (search rules, put-none _ _)
 
 pub row_bytes-requires : goal.row_bytes-requires
-row_bytes-requires c = c.requires.0.within c.loop-row.row c.loop-row-test.true
+row_bytes-requires g c = c.requires.0.within c.loop-row.row c.loop-row-test.true
 
-abbrev offer : After-offer_in-o → ℕ → Offer
+abbrev offer : {g : Over} → After-offer_in-o g → ℕ → Offer
 offer c = let a = c.args in offer_at (row_offers a.book.now a.edition a.first a.n)
 
 -- the offer that was read is the book's own
-as-offer : (c : After-offer_in-o) →
+as-offer : {g : Over} (c : After-offer_in-o g) →
     c.offer_in-o.result ≡ offer c c.loop-row.row
 as-offer c = offer-of-row _ _ _ _ _ c.loop-row-test.true c.row_bytes.ensures.0 c.offer_in-o.ensures
 
-pub bounds-prices-at : goal.bounds-prices-at
-bounds-prices-at c = in-filling _ _ _ c.loop-row.invariant.1.read.price (omega arith)
-
-pub bounds-quantities-at : goal.bounds-quantities-at
-bounds-quantities-at c = in-filling _ _ _ c.loop-row.invariant.1.read.quantity (omega arith)
-
-pub bounds-leasts-at : goal.bounds-leasts-at
-bounds-leasts-at c = in-filling _ _ _ c.loop-row.invariant.1.read.least (omega arith)
-
-pub bounds-resources-at : goal.bounds-resources-at
-bounds-resources-at c = in-filling _ _ _ c.loop-row.invariant.1.read.resource (omega arith)
-
-pub bounds-stamps-at : goal.bounds-stamps-at
-bounds-stamps-at c = in-filling _ _ _ c.loop-row.invariant.1.read.stamp (omega arith)
-
-pub bounds-steps-at : goal.bounds-steps-at
-bounds-steps-at c = in-filling _ _ _ c.loop-row.invariant.1.read.step (omega arith)
-
-pub overflow_add-row : goal.overflow_add-row
-overflow_add-row c = omega (arith, c.loop-row-test.true, c.ranges.n)
-
 pub loop-row-preserved : goal.loop-row-preserved
-loop-row-preserved c = (
+loop-row-preserved g c = (
   search rules,
-  put-more _ _ c.loop-row.invariant.1 (as-offer (goal.at.loop-row-preserved c).After-offer_in-o) c.number_held.ensures
-      c.least_of.ensures
-      c.rest_holds-told.ensures,
+  put-more _ _ c.loop-row.invariant.1 (as-offer (goal.at.loop-row-preserved g c).After-offer_in-o) c.put.ensures c.rest_holds-told.ensures,
 )
 
-pub shape_of-prices : goal.shape_of-prices
-shape_of-prices c = length-filling _ _ _ c.loop-row.invariant.1.read.price
-
-pub shape_of-quantities : goal.shape_of-quantities
-shape_of-quantities c = length-filling _ _ _ c.loop-row.invariant.1.read.quantity
-
-pub shape_of-leasts : goal.shape_of-leasts
-shape_of-leasts c = length-filling _ _ _ c.loop-row.invariant.1.read.least
-
-pub shape_of-resources : goal.shape_of-resources
-shape_of-resources c = length-filling _ _ _ c.loop-row.invariant.1.read.resource
-
-pub shape_of-stamps : goal.shape_of-stamps
-shape_of-stamps c = length-filling _ _ _ c.loop-row.invariant.1.read.stamp
-
-pub shape_of-steps : goal.shape_of-steps
-shape_of-steps c = length-filling _ _ _ c.loop-row.invariant.1.read.step
-
 pub returns : goal.returns
-returns c = put-end c.loop-row.invariant.1 (omega arith)
+returns g c = put-end c.loop-row.invariant.1 (omega arith)

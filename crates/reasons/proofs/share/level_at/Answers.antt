@@ -8,4 +8,4 @@ overflow_sub-sum c = below-reach _ 0 _ _ _ c.supply_below-below.ensures.0 c.supp
 
 pub returns : goal.returns
 returns c =
-    level-received _ _ _ _ _ c.supply_below-below.ensures.0 c.supply_at.ensures.0 _ _ c.excess.ensures c.lesser.ensures
+    level-received _ _ _ _ _ c.supply_below-below.ensures.0 c.supply_at.ensures.0 _ _ c.saturating_sub.ensures c.min.ensures

@@ -17,6 +17,6 @@ loop-row-preserved c =
 pub returns : goal.returns
 unfolding missing_parts
 returns c =
-    let counted = c.rows_of-n.ensures.0 in
+    let counted = c.rows_of-row-end.ensures.0 in
     shows_more _ _ _ c.put_missing_parameters-behind.ensures
     (parts-counted _ _ _ _ _ (omega (arith, counted)) c.loop-row.invariant.2)

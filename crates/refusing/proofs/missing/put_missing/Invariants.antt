@@ -15,7 +15,7 @@ abbrev pub rows : List ℕ → ℕ → ℕ → List (List ℕ)
 rows b edition row = unpriced_row edition row (row_in b row)
 
 abbrev pub invariant-loop-row : goal.invariant-loop-row
-invariant-loop-row l = (l.row ≤ l.n) × (length l.room ≡ length l.initial.room) × Shows l.initial.room l.initial.behind (parts_of (rows l.book l.edition) l.row) l.room l.behind
+invariant-loop-row l = (l.row ≤ l.row-end) × (length l.room ≡ length l.initial.room) × Shows l.initial.room l.initial.behind (parts_of (rows l.book l.edition) l.row) l.room l.behind
 
 abbrev pub decreases-loop-row : goal.decreases-loop-row
-decreases-loop-row l = l.n - l.row
+decreases-loop-row l = l.row-end - l.row

@@ -7,7 +7,7 @@ use Rattle.refusing.proofs.refused.put_steps.Goals as goal
 
 pub returns-then-row-eq0 : goal.returns-then-row-eq0
 unfolding steps_parts
-returns-then-row-eq0 c = rw (eq-eqb _ 0 c.if-row-eq0.true, ← c.step_cause.ensures) (shows-one c.put_rules.ensures)
+returns-then-row-eq0 c = rw (eq-eqb _ 0 c.if-row-eq0.true, ← c.rule_number.ensures) (shows-one c.put_rules.ensures)
 
 pub returns-in_default : goal.returns-in_default
 unfolding steps_parts
@@ -16,5 +16,5 @@ returns-in_default c = rw (ne_eqb _ 0 c.if-row-eq0.false, ← c.offer_of.ensures
 pub returns : goal.returns
 unfolding steps_parts
 returns c =
-    rw (ne_eqb _ 0 c.if-row-eq0.false, ← c.offer_of.ensures, c.in-Offered.is, ← c.step_cause-2.ensures)
+    rw (ne_eqb _ 0 c.if-row-eq0.false, ← c.offer_of.ensures, c.in-Some.is, ← c.rule_number-2.ensures)
     (shows_more _ _ _ c.put_rules-rules.ensures (shows-one c.put_offer.ensures))

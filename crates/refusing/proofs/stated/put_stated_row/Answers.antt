@@ -8,5 +8,5 @@ returns-in_default c = rw (← c.offer_of.ensures, c.in_default.is) (shows-none 
 
 pub returns : goal.returns
 returns c =
-    rw (← c.offer_of.ensures, c.in-Offered.is)
+    rw (← c.offer_of.ensures, c.in-Some.is)
     (shows_more _ _ _ c.put_offer-behind.ensures (shows-one c.put_values.ensures))

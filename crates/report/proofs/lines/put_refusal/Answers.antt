@@ -6,4 +6,6 @@ use Rattle.report.proofs.lines.put_refusal.Goals as goal
 
 pub returns : goal.returns
 unfolding refusal_text
-returns c = fitted-append c.put_word-behind.ensures.0 c.put_short.ensures.0
+returns c =
+    fitted-append (rw (c.from.ensures, c.number.ensures) at c.put_word-behind.ensures.0)
+    (rw c.place.ensures at c.put_short.ensures.0)

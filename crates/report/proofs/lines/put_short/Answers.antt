@@ -7,5 +7,5 @@ use Rattle.report.proofs.lines.put_short.Goals as goal
 pub returns : goal.returns
 returns c =
     let small = ended-short c.args.number c.args.end (omega arith) in
-    let f = c.put_ended.ensures.0 in
+    let f = rw c.from.ensures at c.put_ended.ensures.0 in
     (f, omega (arith, fitted-place f, small))

@@ -6,12 +6,12 @@ use Rattle.rowpages.proofs.row.put_row_of.Goals as goal
 pub returns-in_default : goal.returns-in_default
 returns-in_default c = rw (← c.offer_of.ensures, c.in_default.is) (shows-none _ _)
 
-pub returns-in-Worked : goal.returns-in-Worked
-returns-in-Worked c =
-    rw (← c.offer_of.ensures, c.in-Offered.is, ← c.workings.ensures, c.in-Worked.is)
+pub returns-in-Ok : goal.returns-in-Ok
+returns-in-Ok c =
+    rw (← c.offer_of.ensures, c.in-Some.is, ← c.workings.ensures, c.in-Ok.is)
     c.put_worked.ensures
 
-pub returns-in-Refused : goal.returns-in-Refused
-returns-in-Refused c =
-    rw (← c.offer_of.ensures, c.in-Offered.is, ← c.workings.ensures, c.in-Refused.is)
+pub returns-in-Err : goal.returns-in-Err
+returns-in-Err c =
+    rw (← c.offer_of.ensures, c.in-Some.is, ← c.workings.ensures, c.in-Err.is)
     (shows-none _ _)

@@ -6,8 +6,8 @@ use Rattle.rowpages.proofs.row.put_worked.Goals as goal
 pub returns-in_default : goal.returns-in_default
 returns-in_default c = rw c.in_default.is (shows-none _ _)
 
-pub returns-in-Row : goal.returns-in-Row
-returns-in-Row c = rw (c.in-Shares.is, c.in-Row.is) c.put_full.ensures
+pub returns-in-Some-row : goal.returns-in-Some-row
+returns-in-Some-row c = rw (c.in-Some.is, c.in-Some-row.is) c.put_full.ensures
 
-pub returns-in-NoRow : goal.returns-in-NoRow
-returns-in-NoRow c = rw (c.in-Shares.is, c.in-NoRow.is) (shows-none _ _)
+pub returns-in-None : goal.returns-in-None
+returns-in-None c = rw (c.in-Some.is, c.in-None.is) (shows-none _ _)

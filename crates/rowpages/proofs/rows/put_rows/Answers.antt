@@ -9,15 +9,15 @@ returns-in_default c = rw (← c.head_of.ensures, c.in_default.is) (shows-none _
 
 pub returns-in_default-workings : goal.returns-in_default-workings
 returns-in_default-workings c =
-    rw (← c.head_of.ensures, c.in-Stated.is, ← c.workings.ensures, c.in_default-workings.is)
+    rw (← c.head_of.ensures, c.in-Some.is, ← c.workings.ensures, c.in_default-workings.is)
     (shows-none _ _)
 
 pub put_some-requires : goal.put_some-requires
 put_some-requires c =
     let counted = c.rows_of.ensures in
-    (worked-accepted _ _ _ _ c.workings.ensures c.in-Worked.is, counted.0, counted.1)
+    (worked-accepted _ _ _ _ c.workings.ensures c.in-Ok.is, counted.0, counted.1)
 
 pub returns : goal.returns
 returns c =
-    rw (← c.head_of.ensures, c.in-Stated.is, ← c.workings.ensures, c.in-Worked.is, ← c.rows_of.ensures.0)
+    rw (← c.head_of.ensures, c.in-Some.is, ← c.workings.ensures, c.in-Ok.is, ← c.rows_of.ensures.0)
     c.put_some.ensures

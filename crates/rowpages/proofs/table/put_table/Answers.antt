@@ -5,11 +5,10 @@ use Rattle.rowpages.proofs.Accepted.{table-own, refused-not}
 use borrow.Author.Rules.{rules}
 use Rattle.rowpages.proofs.table.put_table.Goals as goal
 
-pub returns-in-Cleared : goal.returns-in-Cleared
-returns-in-Cleared c =
-    shows-as _ _ _ _ (table-own _ _ _ _ _ _ c.clear-answer.ensures _ c.in-Cleared.is _ _ _ c.requires.1)
-    c.put_lines.ensures
+pub returns-in_default : goal.returns-in_default
+returns-in_default c =
+    absurd (refused-not _ _ _ _ _ _ c.clear.ensures _ (search rules) (search rules) c.requires.0 c.in_default.is)
 
-pub returns-in-Refused : goal.returns-in-Refused
-returns-in-Refused c =
-    absurd (refused-not _ _ _ _ _ _ c.clear-answer.ensures _ _ (search rules) (search rules) c.requires.0 c.in-Refused.is)
+pub returns : goal.returns
+returns c =
+    shows-as _ _ _ _ (table-own _ _ _ _ _ _ c.clear.ensures _ c.in-Ok.is _ _ _ c.requires.1) c.put_lines.ensures

@@ -2,10 +2,9 @@
 -- Assumes nothing.
 use mathlib.Core.Bool.{not}
 use mathlib.Core.Path.{◌≡◌, sym, ap, ◌∙◌}
-use Prim.Native.Nat.{◌+◌, ◌-◌}
+use Prim.Native.Nat.{◌+◌}
 use native.Mathlib.Omega.{arith}
 use borrow.Author.Rules.{rules}
-use borrow.Author.Count.{falls}
 use Rattle.values.specs.Refusals.{first}
 use Rattle.values.proofs.Firsts.{unless-held, unless-failed, first-zero, first_on, first-refused}
 use Rattle.sections.specs.Blocks.{block_of}
@@ -29,13 +28,10 @@ pub returns-then-not-rows_hold : goal.returns-then-not-rows_hold
 unfolding section_fault block_fault
 returns-then-not-rows_hold c =
     sym
-    (first-refused _ _ _ 3 _
+    (first-refused _ _ _ _
     (omega arith)
     c.loop-j.invariant.1
     (unless-failed _ (as-block (goal.at.returns-then-not-rows_hold c).After-rows_hold) (ap not c.if-not-rows_hold.true)))
-
-pub loop-j-smaller : goal.loop-j-smaller
-loop-j-smaller c = falls _ _ c.loop-j-test.true
 
 pub loop-j-preserved : goal.loop-j-preserved
 unfolding block_fault

@@ -1,6 +1,6 @@
 -- `stepped_holds` meets its contract: byte by byte, or, where the rule admits marks and any step alone, by one number.
 -- Assumes nothing.
-use mathlib.Core.Path.{sym, ap, ◌∙◌}
+use mathlib.Core.Path.{sym, ap₂, ◌∙◌}
 use Prim.Native.Nat.{ℕ, ◌+◌, ◌*◌, ◌/◌, ◌%◌, ◌<◌}
 use native.Mathlib.Omega.{arith}
 use lib.Dec.{leb}
@@ -13,8 +13,8 @@ returns c =
     let last = c.args.last in
     let small : last.marks < 256 = search rules in
     let width : last.step < 256 = search rules in
-    ap (λ (n : ℕ). leb (n % 256 + n / 65536 * 65536) last.marks) c.u32_at-number.ensures.0
+    ap₂ (λ (n marks : ℕ). leb (n % 256 + n / 65536 * 65536) marks) c.u32_at-number.ensures.0 c.from-4.ensures
     ∙ sym
-    (last-holds-stepped last c.args.p.now small c.if-last.false width
+    (last-holds-stepped last c.args.p.now small (omega arith) width
     (omega (arith, c.type_inv.p 28))
     (omega (arith, c.type_inv.p 29)))

@@ -2,7 +2,6 @@
 -- Assumes nothing.
 use mathlib.Core.Path.{◌≡◌, ap, ◌∙◌}
 use mathlib.Core.Bool.{not}
-use Prim.Native.Nat.{◌-◌}
 use lib.Dec.{ltb}
 use borrow.Author.Rules.{rules}
 use native.Mathlib.Omega.{arith}

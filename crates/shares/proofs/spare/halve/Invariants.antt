@@ -2,13 +2,9 @@
 -- are parted.
 -- Assumes nothing.
 use mathlib.Core.Path.{◌≡◌}
-use Prim.Native.Nat.{◌-◌, ◌≤◌}
 use Rattle.laws.specs.Filled.{filled}
 use Rattle.shares.specs.inner.Halves.{high_half, low_half}
 use Rattle.shares.proofs.spare.halve.Given as goal
 
 abbrev pub invariant-loop-row : goal.invariant-loop-row
-invariant-loop-row l = (l.row ≤ l.n) × (l.highs ≡ filled (high_half l.stamps) l.row l.initial.highs) × (l.lows ≡ filled (low_half l.stamps) l.row l.initial.lows)
-
-abbrev pub decreases-loop-row : goal.decreases-loop-row
-decreases-loop-row l = l.n - l.row
+invariant-loop-row l = (l.highs ≡ filled (high_half l.stamps) l.row l.initial.highs) × (l.lows ≡ filled (low_half l.stamps) l.row l.initial.lows)

@@ -2,7 +2,7 @@
 -- 200,000.
 -- Assumes nothing.
 use mathlib.Core.Path.{ap, ◌∙◌}
-use Prim.Native.Nat.{◌-◌, ◌≤◌}
+use Prim.Native.Nat.{◌≤◌}
 use native.Mathlib.Omega.{arith}
 use Rattle.laws.specs.Sum.{sum_to, sum_where}
 use Rattle.laws.proofs.Loops.{added_none, added_more}
@@ -15,14 +15,14 @@ loop-row-init c = (omega arith, added_none _, omega arith)
 
 pub part-sum-requires : goal.part-sum-requires
 part-sum-requires c =
-    (c.requires.1.some c.loop-row.row (omega arith), c.requires.1.within, c.requires.0.small c.loop-row.row (omega arith))
+    (c.requires.some c.loop-row.row (omega arith), c.requires.within, c.args.asks.now.listed.small c.loop-row.row (omega arith))
 
 -- a row adds at most 200,000
 part-most : (c : After-part-sum) → c.part-sum.result ≤ 200000
-part-most c = omega (arith, c.part-sum.ensures.1, c.requires.0.small c.loop-row.row (omega arith))
+part-most c = omega (arith, c.part-sum.ensures.1, c.args.asks.now.listed.small c.loop-row.row (omega arith))
 
 pub overflow_add-sum : goal.overflow_add-sum
-overflow_add-sum c = omega (arith, part-most (goal.at.overflow_add-sum c).After-part-sum)
+overflow_add-sum c = omega (arith, part-most (goal.at.overflow_add-sum c).After-part-sum, c.args.asks.now.listed.few)
 
 pub loop-row-preserved : goal.loop-row-preserved
 loop-row-preserved c =

@@ -4,8 +4,8 @@
 use mathlib.Core.Path.{◌≡◌}
 use mathlib.Core.Bool.{cond}
 use mathlib.Core.List.{List}
-use Prim.Native.Nat.{ℕ, ◌*◌, ◌-◌, ◌/◌, ◌≤◌}
-use lib.ListN.{get_or}
+use Prim.Native.Nat.{ℕ, ◌*◌, ◌/◌, ◌≤◌}
+use lib.ListN.{length, get_or}
 use lib.Dec.{eqb}
 use Rattle.laws.specs.Sum.{sum_to}
 use Rattle.reasons.specs.declared.share.Received.{Received}
@@ -16,7 +16,7 @@ adds prices quantities price level row =
     cond (eqb (get_or prices row 0) price) (get_or quantities row 0 * level.amount / level.sum) 0
 
 abbrev pub invariant-loop-row : goal.invariant-loop-row
-invariant-loop-row l = (l.row ≤ l.n) × (l.sum ≡ sum_to (adds l.prices l.quantities l.price l.level) l.row) × (l.sum ≤ 200000 * l.row)
-
-abbrev pub decreases-loop-row : goal.decreases-loop-row
-decreases-loop-row l = l.n - l.row
+invariant-loop-row l =
+    (l.row ≤ length l.asks.prices.now)
+    × (l.sum ≡ sum_to (adds l.asks.prices.now l.asks.quantities.now l.price l.level) l.row)
+    × (l.sum ≤ 200000 * l.row)

@@ -16,6 +16,6 @@ pub returns-then-a-b-3 : goal.returns-then-a-b-3
 unfolding decided_of
 returns-then-a-b-3 c = rw (eq-eqb _ _ c.if-a-b.false, eq-eqb _ _ c.if-a-b-2.false, ne_eqb _ _ c.if-a-b-3.true)
 
-pub returns : goal.returns
+pub returns-else-a-b-3 : goal.returns-else-a-b-3
 unfolding decided_of
-returns c = rw (eq-eqb _ _ c.if-a-b.false, eq-eqb _ _ c.if-a-b-2.false, eq-eqb _ _ c.if-a-b-3.false)
+returns-else-a-b-3 c = rw (eq-eqb _ _ c.if-a-b.false, eq-eqb _ _ c.if-a-b-2.false, eq-eqb _ _ c.if-a-b-3.false)

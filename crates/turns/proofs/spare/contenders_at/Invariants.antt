@@ -2,14 +2,12 @@
 -- Assumes nothing.
 use mathlib.Core.Path.{◌≡◌}
 use mathlib.Core.Bool.{cond}
-use Prim.Native.Nat.{◌-◌, ◌≤◌}
+use Prim.Native.Nat.{◌≤◌}
 use lib.ListN.{get_or}
 use lib.Dec.{eqb}
 use Rattle.laws.specs.Sum.{sum_to}
 use Rattle.turns.proofs.spare.contenders_at.Given as goal
 
-abbrev pub invariant-loop-row : goal.invariant-loop-row
-invariant-loop-row l = (l.row ≤ l.n) × (l.count ≡ sum_to (λ i. cond (eqb (get_or l.prices i 0) l.price) 1 0) l.row) × (l.count ≤ l.row)
-
-abbrev pub decreases-loop-row : goal.decreases-loop-row
-decreases-loop-row l = l.n - l.row
+abbrev pub invariant-loop-held : goal.invariant-loop-held
+invariant-loop-held l =
+    (l.count ≡ sum_to (λ i. cond (eqb (get_or l.prices i 0) l.price) 1 0) l.held-index) × (l.count ≤ l.held-index)

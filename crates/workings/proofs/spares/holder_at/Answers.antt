@@ -5,11 +5,4 @@ use Rattle.workings.proofs.Contested.{no-one-past}
 use Rattle.workings.proofs.spares.holder_at.Goals as goal
 
 pub returns-then-contenders-place : goal.returns-then-contenders-place
-returns-then-contenders-place c =
-    no-one-past _ _ _ _ (omega (arith, c.if-contenders-place.true, c.requires.contenders_value))
-
-pub placed_at-requires : goal.placed_at-requires
-placed_at-requires c = c.requires.row_lists
-
-pub returns : goal.returns
-returns c = c.placed_at.ensures
+returns-then-contenders-place c = no-one-past _ _ _ _ (omega (arith, c.if-contenders-place.true, c.requires))

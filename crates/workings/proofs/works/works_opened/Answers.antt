@@ -1,62 +1,70 @@
 -- `works_opened` reads the rows into columns of zeros, and works over them.
 -- Assumes nothing.
-use mathlib.Core.Path.{◌≡◌, refl, sym, subst, ◌∙◌}
-use Rattle.values.specs.declared.Verdict.TheVariants.{Passed}
+use mathlib.Core.Path.{◌≡◌, sym, subst, ◌∙◌}
+use native.Mathlib.Omega.{arith}
+use Rattle.std.proofs.lemmas.Result.{err_from_is_err_and}
+use Rattle.values.specs.Refusals.{no_fault}
 use Rattle.limits.specs.Ranges.{Ranged}
 use Rattle.layout.specs.Read.{contents_of}
-use Rattle.columns.specs.inner.Columns.{Columns, columns_of, empty, Blank}
+use Rattle.columns.specs.inner.Columns.{Columns, Blank}
+use Rattle.columns.specs.inner.Sides.{lists_in, lists_behind}
 use Rattle.columns.proofs.Offers.{blank-room}
 use Rattle.book.specs.Faults.{first_fault}
 use Rattle.sale.specs.inner.Sale.{Stands}
-use Rattle.sale.proofs.Sales.{columns-rows, columns-ordered, leasts-long}
+use Rattle.sale.proofs.Sales.{columns-rows, columns-ordered, first-stands}
 use Rattle.call.proofs.Calls.{opened_inside, opened-stands}
 use Rattle.workings.proofs.Worked.{answer-refused, answer-worked, first_rows}
 use Rattle.workings.proofs.Contained.{works-stand}
 use Rattle.workings.proofs.works.works_opened.Goals as goal
-use Rattle.workings.proofs.works.works_opened.Goals.{After-read_rows-found, In_default, Start}
+use Rattle.workings.proofs.works.works_opened.Goals.{After-blank-columns, After-read_rows, In_ok-read_rows}
 
 -- the columns of zeros have room for the rows
-blank : (c : Start) → Blank c.args.rows (empty 600)
-blank c = record { room = 600; enough = (opened_inside _ _ _ _ c.requires).few; zeros = refl }
+blank : (c : After-blank-columns) → Blank c.args.head.rows (lists_in c.blank-columns.result)
+blank c = record { room = 600; enough = (opened_inside _ _ _ _ c.requires).few; zeros = c.blank-columns.ensures }
 
-pub read_rows-found-requires : goal.read_rows-found-requires
-read_rows-found-requires c =
-    (opened_inside _ _ _ _ c.requires, blank-room _ _ (blank (goal.at.read_rows-found-requires c).Start))
+pub read_rows-requires : goal.read_rows-requires
+read_rows-requires c =
+    let inside = opened_inside _ _ _ _ c.requires in
+    (omega arith, (inside, inside.few, blank-room _ _ (blank (goal.at.read_rows-requires c).After-blank-columns)))
 
 -- the rows decide
-fault : (c : After-read_rows-found) → first_fault c.args.book.now ≡ c.read_rows-found.result
-fault c = first_rows _ _ _ _ _ c.requires c.read_rows-found.ensures.found
+fault : (c : After-read_rows) → first_fault c.args.book.now ≡ c.read_rows.result
+fault c = first_rows _ _ _ _ _ c.requires c.read_rows.ensures.found
 
-pub returns-in-Refused : goal.returns-in-Refused
-returns-in-Refused c =
-    answer-refused _ _ _ _ (fault (goal.at.returns-in-Refused c).After-read_rows-found ∙ c.in-Refused.is)
+pub returns-in_err-read_rows : goal.returns-in_err-read_rows
+returns-in_err-read_rows c =
+    let failed = err_from_is_err_and c.from_residual.result c.from_residual.ensures.1 in
+    rw (failed.1, failed.2)
+    (answer-refused _ _ _ (fault (goal.at.returns-in_err-read_rows c).After-read_rows ∙ c.in_err-read_rows.was))
 
 -- past the test the book is accepted
-accepted : (c : In_default) → first_fault c.args.book.now ≡ c.read_rows-found.result → first_fault c.args.book.now ≡ Passed
-accepted c own = own ∙ c.in_default.is
+accepted : (c : In_ok-read_rows) → first_fault c.args.book.now ≡ c.read_rows.result → first_fault c.args.book.now ≡ no_fault
+accepted c own = own ∙ c.in_ok-read_rows.was
 
--- the columns after the rows are read
-abbrev columns : In_default → Columns
-columns c =
-    columns_of c.read_rows-found.new.prices c.read_rows-found.new.quantities c.read_rows-found.new.leasts c.read_rows-found.new.resources c.read_rows-found.new.stamps c.read_rows-found.new.steps
-
--- what the book says stands in them
-stands : (c : In_default) → let a = c.args in
-    first_fault c.args.book.now ≡ c.read_rows-found.result → Blank c.args.rows (empty 600)
-    → Stands (contents_of a.book.now) a.p a.rows (columns c)
+-- what the book says stands in the columns
+stands : (c : In_ok-read_rows)
+    → first_fault c.args.book.now ≡ c.read_rows.result → Blank c.args.head.rows (lists_in c.blank-columns.result)
+    → Stands (contents_of c.args.book.now) c.args.head.parameters c.args.head.rows (lists_in c.read_rows.new.columns)
 stands c own room =
-    opened-stands _ _ _ _ c.requires _ (columns c) _ (accepted c own) room c.read_rows-found.ensures
+    opened-stands _ _ _ _ c.requires _ _ _ (accepted c own) room c.read_rows.ensures
+
+pub rows-rows-requires : goal.rows-rows-requires
+rows-rows-requires c =
+    let at = goal.at.rows-rows-requires c in
+    let ok = stands at.In_ok-read_rows (fault at.After-read_rows) (blank at.After-blank-columns) in
+    (omega arith, (((opened_inside _ _ _ _ c.requires).few, columns-rows _ _ _ _ ok), columns-ordered _ _ _ _ ok))
 
 pub works_at-requires : goal.works_at-requires
 works_at-requires c =
     let at = goal.at.works_at-requires c in
-    let ok = stands at.In_default (fault at.After-read_rows-found) (blank at.Start) in record {
-      ranged = (subst Ranged (sym ok.own) ok.clearable.parameters, columns-rows _ _ _ _ ok, leasts-long _ _ _ _ ok);
-      ordered = columns-ordered _ _ _ _ ok;
-    }
+    let ok = stands at.In_ok-read_rows (fault at.After-read_rows) (blank at.After-blank-columns) in
+    subst Ranged (sym ok.own) ok.clearable.parameters
 
 pub returns : goal.returns
 returns c =
     let at = goal.at.returns c in
-    let own = fault at.After-read_rows-found in
-    answer-worked _ _ _ (accepted at.In_default own) (works-stand _ _ _ (columns at.In_default) _ _ _ _ (stands at.In_default own (blank at.Start)) c.works_at.ensures)
+    let own = fault at.After-read_rows in
+    answer-worked _ _ _ (accepted at.In_ok-read_rows own)
+    (works-stand _ _ _ (lists_behind c.rows-rows.result) _ _ _ _
+    (first-stands _ _ _ _ (stands at.In_ok-read_rows own (blank at.After-blank-columns)) _ c.rows-rows.ensures)
+    c.works_at.ensures)
