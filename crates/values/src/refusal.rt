@@ -1,5 +1,5 @@
 // Why a book is refused, is not sound, or cannot be written: the table of refusals, each with its place.
-ghost use Rattle.std.specs.Prelude.{◌≡◌};
+ghost use Rattle.std.specs.Prelude.{◌≡◌, ◌++◌, Some, codes, decimal};
 ghost use Rattle.values.specs.Refusals.{number_of, place_of};
 
 use std::error::Error;
@@ -76,7 +76,10 @@ impl Refusal {
     }
 }
 
+// Its number, a space, and its place.
 impl fmt::Display for Refusal {
+    ghost output = { λ refusal. Some (decimal (number_of refusal) ++ (codes " " ++ decimal (place_of refusal))) };
+
     fn fmt<W: fmt::Write>(&self, f: &mut fmt::Formatter<W>) -> fmt::Result {
         write!(f, "{} {}", self.number(), self.place())
     }
