@@ -10,7 +10,7 @@ use lib.ListN.{length, take, drop}
 use lib.Seq.{take-append_seam}
 use Rattle.std.specs.Prelude.{Err}
 use Rattle.block.specs.Bytes.{byte}
-use Rattle.values.specs.Refusals.{number_of, place_of, buffer_by, Verdict, no_fault}
+use Rattle.values.specs.Refusals.{number_of, place_of, buffer_by, Verdict, RefusedBy, no_fault}
 use Rattle.values.proofs.Firsts.{and_then-left, and_then-right}
 use Rattle.layout.specs.Read.{contents_of}
 use Rattle.book.specs.Faults.{first_fault, sound_fault}
@@ -19,7 +19,7 @@ use Rattle.convert.proofs.Converted.{converted-said, converted-sound, converted-
 use Rattle.plain.specs.declared.structs.OzpText.{OzpText}
 use Rattle.words.specs.Texts.{text_given, text_refused, text_by}
 use Rattle.convert.specs.Converted.{Converted}
-use Rattle.words.proofs.Answered.{refused-by, passed-by}
+use Rattle.words.proofs.Answered.{refused-by, refused-as, passed-by}
 use Rattle.values.specs.declared.refusal.Refusal.{Refusal}
 
 module _ (b room : List ℕ) {r : OzpText} {room' : List ℕ} (k : Converted b room r room') where
@@ -31,10 +31,15 @@ module _ (b room : List ℕ) {r : OzpText} {room' : List ℕ} (k : Converted b r
     k.room-holds ∙ ap (λ (v : Verdict). buffer_by v room (converted b ++ drop (length (converted b)) room)) e,
   )
 
-  -- Where the call refuses, the table does.
-  pub convert-refused-only : (refusal : Refusal) → r ≡ text_refused (number_of refusal) (place_of refusal) → convert_fault b (length room) ≡ Err refusal
-  convert-refused-only refusal e =
-      refused-by (convert_fault b (length room)) (length (converted b)) refusal (sym k.answered ∙ e)
+  -- Where the call refuses, by whatever number at whatever place, the table does, by the same.
+  pub convert-refused-only : (number place : ℕ) → r ≡ text_refused number place → RefusedBy (convert_fault b (length room)) number place
+  convert-refused-only number place e =
+      refused-by (convert_fault b (length room)) (length (converted b)) number place (sym k.answered ∙ e)
+
+  -- Where it answers with a refusal's number and place, the table gives that refusal.
+  pub convert-refused-as : (refusal : Refusal) → r ≡ text_refused (number_of refusal) (place_of refusal)
+      → convert_fault b (length room) ≡ Err refusal
+  convert-refused-as refusal e = refused-as (convert_fault b (length room)) (length (converted b)) refusal (sym k.answered ∙ e)
 
   -- Where the table refuses nothing, the call converts.
   pub convert-passed : convert_fault b (length room) ≡ no_fault

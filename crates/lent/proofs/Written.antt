@@ -13,7 +13,7 @@ use lib.Seq.{take-append_seam}
 use borrow.Author.Tests.{le-leb}
 use Rattle.std.specs.Prelude.{Err}
 use Rattle.values.specs.Contents.{Contents}
-use Rattle.values.specs.Refusals.{number_of, place_of, short_room, buffer_by, Verdict, no_fault}
+use Rattle.values.specs.Refusals.{number_of, place_of, short_room, buffer_by, Verdict, RefusedBy, no_fault}
 use Rattle.values.proofs.Firsts.{unless-true, and_then-next, and_then-left, and_then-right}
 use Rattle.block.specs.Bytes.{byte}
 use Rattle.layout.specs.Read.{contents_of}
@@ -29,7 +29,7 @@ use Rattle.encoding.proofs.BookRead.{encode-read}
 use Rattle.writer.specs.Writing.{edition_fault, count_fault, write_fault}
 use Rattle.plain.specs.declared.structs.OzpText.{OzpText}
 use Rattle.words.specs.Texts.{text_given, text_refused, text_by}
-use Rattle.words.proofs.Answered.{refused-by, passed-by}
+use Rattle.words.proofs.Answered.{refused-by, refused-as, passed-by}
 use Rattle.lent.specs.Wrote.{Wrote}
 use Rattle.lent.proofs.Writes.{given-passed, passed-fits}
 use Rattle.values.specs.declared.refusal.Refusal.{Refusal}
@@ -45,10 +45,15 @@ module _ (c : Contents) (room : List ℕ) {r : OzpText} {room' : List ℕ} (w : 
     w.room-holds ∙ ap (λ (v : Verdict). buffer_by v room (encode c ++ drop (length (encode c)) room)) e,
   )
 
-  -- Where the call refuses, the table does.
-  pub write-refused-only : (refusal : Refusal) → r ≡ text_refused (number_of refusal) (place_of refusal) → write_fault c (length room) ≡ Err refusal
-  write-refused-only refusal e =
-      refused-by (write_fault c (length room)) (length (encode c)) refusal (sym w.answered ∙ e)
+  -- Where the call refuses, by whatever number at whatever place, the table does, by the same.
+  pub write-refused-only : (number place : ℕ) → r ≡ text_refused number place → RefusedBy (write_fault c (length room)) number place
+  write-refused-only number place e =
+      refused-by (write_fault c (length room)) (length (encode c)) number place (sym w.answered ∙ e)
+
+  -- Where it answers with a refusal's number and place, the table gives that refusal.
+  pub write-refused-as : (refusal : Refusal) → r ≡ text_refused (number_of refusal) (place_of refusal)
+      → write_fault c (length room) ≡ Err refusal
+  write-refused-as refusal e = refused-as (write_fault c (length room)) (length (encode c)) refusal (sym w.answered ∙ e)
 
   -- Where the table refuses nothing, the call writes.
   pub write-passed : write_fault c (length room) ≡ no_fault

@@ -1,10 +1,11 @@
--- The table of refusals leaves no two alike: a number and a place tell the refusal.
+-- The table of refusals leaves no two alike: a number and a place tell the refusal, and so what a test answered.
 -- Assumes nothing.
-use mathlib.Core.Path.{◌≡◌, refl, sym, ap₂, ◌∙◌}
+use mathlib.Core.Path.{◌≡◌, refl, sym, ap, ap₂, ◌∙◌}
 use mathlib.Core.Bool.{cond}
 use Prim.Native.Nat.{ℕ}
 use lib.Dec.{eqb}
-use Rattle.values.specs.Refusals.{number_of, place_of}
+use Rattle.std.specs.Prelude.{Err, Ok}
+use Rattle.values.specs.Refusals.{number_of, place_of, Verdict, RefusedBy}
 use Rattle.values.specs.declared.refusal.Refusal.{Refusal}
 use Rattle.values.specs.declared.refusal.Refusal.TheVariants.{WrongLength, WrongCheck, WrongLayout, MissingParameter, ParameterOutOfRange, NoPrice, OfferOutOfRange, RepeatedResource, ShortBuffer, BrokenSteps, SeveralSteps, TooManyRows, ShortRoom}
 
@@ -43,3 +44,8 @@ told-at ShortRoom = refl
 -- Refusals of one number and one place are the same refusal.
 pub refusal-told : (r s : Refusal) → number_of r ≡ number_of s → place_of r ≡ place_of s → r ≡ s
 refusal-told r s e f = told-at r ∙ ap₂ at e f ∙ sym (told-at s)
+
+-- A test that refuses by a refusal's number at its place answers that refusal.
+pub refused-told : (v : Verdict) (refusal : Refusal) → RefusedBy v (number_of refusal) (place_of refusal) → v ≡ Err refusal
+refused-told (Ok u) refusal by = absurd by
+refused-told (Err other) refusal by = ap Err (refusal-told other refusal by.0 by.1)

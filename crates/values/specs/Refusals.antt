@@ -2,7 +2,7 @@
 --
 -- In order: the table; what a test answers; tests that refuse; the order of tests; what is left.
 -- Assumes nothing.
-use Rattle.std.specs.Prelude.{ℕ, zero, suc, Bool, true, false, List, Ok, Err, ⊤}
+use Rattle.std.specs.Prelude.{◌≡◌, ℕ, zero, suc, Bool, true, false, List, Ok, Err, IsErrAnd, ⊤}
 use Rattle.std.specs.declared.result.Result.{Result}
 use Rattle.values.specs.declared.refusal.Refusal.{Refusal}
 use Rattle.values.specs.declared.refusal.Refusal.TheVariants.{WrongLength, WrongCheck, WrongLayout, MissingParameter, ParameterOutOfRange, NoPrice, OfferOutOfRange, RepeatedResource, ShortBuffer, BrokenSteps, SeveralSteps, TooManyRows, ShortRoom}
@@ -50,6 +50,10 @@ Tested E = Result ⊤ E
 -- what a test of a book answers: it passed, or the refusal
 abbrev pub Verdict : Type 0
 Verdict = Tested Refusal
+
+-- a test of a book refused, by this number at this place
+abbrev pub RefusedBy : Verdict → ℕ → ℕ → Type 0
+RefusedBy v number place = IsErrAnd v (λ refusal. (number_of refusal ≡ number) × (place_of refusal ≡ place))
 
 -- ---- tests that refuse
 
