@@ -1,6 +1,6 @@
 -- The contract of the contest leaves one content of the standings: any two that it allows for the same arguments coincide.
 --
--- In order: two lists that the contest leaves; the standings, by the contract of `award`.
+-- In order: two lists that the contest leaves; the standings, for any number of rows, and by the contract of `award`.
 -- Assumes nothing.
 use mathlib.Core.Path.{◌≡◌, sym, ◌∙◌}
 use mathlib.Core.List.{List}
@@ -22,10 +22,17 @@ awarded-alone k₁ k₂ k₃ k₄ k₅ entry n spare exit other a b =
     (λ l. a.beyond i l ∙ sym (b.beyond i l))
     (λ l. a.within i l ∙ sym (b.within i l)))
 
--- the standings, by the contract of `award`
+-- the standings: by what the contract of `award` promises, of the first n rows for any n, and by that contract itself, whose rows are
+-- all that stand
 pub award-decided : (κs : Lfts 6) (k₁ k₂ k₃ k₄ k₅ : Bor (List ℕ)) (standings after other : MutBor (List ℕ)) (spare : ℕ)
-    → award.Post κs (k₁, (k₂, (k₃, (k₄, (k₅, (standings, (spare, tt))))))) tt (k₁, (k₂, (k₃, (k₄, (k₅, (after, (spare, tt)))))))
+    → ((n : ℕ)
+    → Awarded k₁.now k₂.now k₃.now k₄.now k₅.now standings.now n spare after.now
+    → Awarded k₁.now k₂.now k₃.now k₄.now k₅.now standings.now n spare other.now
+    → after.now ≡ other.now)
+    × (award.Post κs (k₁, (k₂, (k₃, (k₄, (k₅, (standings, (spare, tt))))))) tt (k₁, (k₂, (k₃, (k₄, (k₅, (after, (spare, tt)))))))
     → award.Post κs (k₁, (k₂, (k₃, (k₄, (k₅, (standings, (spare, tt))))))) tt (k₁, (k₂, (k₃, (k₄, (k₅, (other, (spare, tt)))))))
-    → after.now ≡ other.now
-award-decided κs k₁ k₂ k₃ k₄ k₅ standings after other spare e f =
-    awarded-alone k₁.now k₂.now k₃.now k₄.now k₅.now standings.now _ spare after.now other.now e f
+    → after.now ≡ other.now)
+award-decided κs k₁ k₂ k₃ k₄ k₅ standings after other spare = (
+  λ n. awarded-alone k₁.now k₂.now k₃.now k₄.now k₅.now standings.now n spare after.now other.now,
+  awarded-alone k₁.now k₂.now k₃.now k₄.now k₅.now standings.now _ spare after.now other.now,
+)

@@ -1,7 +1,6 @@
 // What is offered at a price or below.
 ghost use Rattle.std.specs.Prelude.{◌≡◌, cond, ◌≤◌, leb};
-ghost use Rattle.auction.specs.Offers.{supply, supply_below};
-ghost use Rattle.levels.specs.inner.Asks.{offers_in};
+ghost use Rattle.levels.specs.inner.Asks.{offers_in, OfferedAt, OfferedBelow};
 
 use crate::asks::Asks;
 
@@ -15,7 +14,7 @@ fn taken(price: u32, quantity: u32, limit: u32) -> u32
 impl Asks<'_> {
     // Everything offered at the limit or below. The loop has no branch of its own, so that it runs in lanes.
     pub fn supply_at(&self, limit: u32) -> u32
-        ensures { (result ≡ supply (offers_in self.now) limit) × (result ≤ 120000000) }
+        ensures { OfferedAt (offers_in self.now) limit result }
     {
         let mut sum: u32 = 0;
         for row in 0..self.prices.len() {
@@ -26,7 +25,7 @@ impl Asks<'_> {
 
     // Everything offered strictly below a price.
     pub fn supply_below(&self, price: u32) -> u32
-        ensures { (result ≡ supply_below (offers_in self.now) price) × (result ≤ 120000000) }
+        ensures { OfferedBelow (offers_in self.now) price result }
     {
         if price == 0 {
             return 0;

@@ -1,11 +1,9 @@
 // The cleared total, and the level at which it stops.
 ghost use Rattle.std.specs.Prelude.{◌≤◌, length};
-ghost use Rattle.auction.specs.Clearing.{cleared_total};
 ghost use Rattle.curve.specs.Shape.{Shaped};
-ghost use Rattle.curve.specs.Price.{demand_of};
 ghost use Rattle.levels.specs.inner.Asks.{offers_in};
-ghost use Rattle.levels.specs.inner.Stop.{StopsAt};
 ghost use Rattle.market.specs.inner.Bracket.{NoneBefore};
+ghost use Rattle.market.specs.inner.Cleared.{ClearedAt};
 
 use crate::aim::tenths_at;
 use crate::bracket::{PriceBracket, narrow, narrowed};
@@ -29,7 +27,7 @@ fn next_tried(prices: &[u32], b: PriceBracket) -> u32
 // more than an average offer is short, and with each price that the total goes past, half as much.
 pub fn cleared_level(c: Curve, asks: &Asks) -> Level
     requires { Shaped c }
-    ensures { StopsAt (offers_in asks.now) (cleared_total (demand_of c) (offers_in asks.now)) result × (result.total ≤ c.q3) }
+    ensures { ClearedAt c (offers_in asks.now) result }
 {
     let p1 = c.p1;
     let whole = PriceBracket {
