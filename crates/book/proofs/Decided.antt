@@ -9,6 +9,7 @@ use contract.Lifetimes.{Lfts}
 use denote.Ref.{Bor}
 use Rattle.book.specs.Faults.{first_fault, sound_fault}
 use Rattle.book.specs.declared.Opening.{Opening}
+use Rattle.book.specs.declared.Unopened.{Unopened}
 use Rattle.book.proofs.opened.Reads as opened
 use Rattle.book.proofs.verdict.Reads as verdict
 use Rattle.book.proofs.soundness.Reads as soundness
@@ -33,14 +34,14 @@ pub soundness-decided : (κs : Lfts 1) (book other : Bor (List ℕ)) (r s : Verd
     → r ≡ s
 soundness-decided κs book other r s same e f = e ∙ ap sound_fault same ∙ sym f
 
--- what a book says before its rows or the fault of that, by the contract of `opened`
+-- what a book says before its rows, with the fault of that, by the contract of `opened`
 one_fault : {fault other : Refusal} {v : Verdict} → v ≡ Err fault → v ≡ Err other → fault ≡ other
 one_fault e f = cc
 
 not_both : {fault : Refusal} {v : Verdict} → v ≡ no_fault → v ≡ Err fault → ⊥
 not_both e f = cc
 
-pub opened-decided : (κs : Lfts 1) (book : Bor (List ℕ)) (r s : Result Opening Refusal)
+pub opened-decided : (κs : Lfts 1) (book : Bor (List ℕ)) (r s : Result Opening Unopened)
     → opened.Post κs (book, tt) r (book, tt) → opened.Post κs (book, tt) s (book, tt) → r ≡ s
 opened-decided κs book (Ok o) (Ok p) e f = λ i.
     Ok (record {
@@ -48,6 +49,14 @@ opened-decided κs book (Ok o) (Ok p) e f = λ i.
       parameters = (e.parameters ∙ sym f.parameters) i;
       rows = (e.rows ∙ sym f.rows) i;
     })
-opened-decided κs book (Ok o) (Err fault) e f = absurd (not_both e.passed f)
-opened-decided κs book (Err fault) (Ok o) e f = absurd (not_both f.passed e)
-opened-decided κs book (Err fault) (Err other) e f = ap Err (one_fault e f)
+opened-decided κs book (Ok o) (Err u) e f = absurd (not_both e.passed f.refused)
+opened-decided κs book (Err u) (Ok o) e f = absurd (not_both f.passed e.refused)
+opened-decided κs book (Err u) (Err w) e f = λ i.
+    Err (record {
+      refusal = one_fault e.refused f.refused i;
+      opening = record {
+        edition = (e.edition ∙ sym f.edition) i;
+        parameters = (e.parameters ∙ sym f.parameters) i;
+        rows = (e.rows ∙ sym f.rows) i;
+      };
+    })

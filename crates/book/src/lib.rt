@@ -3,8 +3,9 @@
 
 ghost use Rattle.std.specs.Prelude.{◌≡◌};
 ghost use Rattle.layout.specs.Form.{length_fault};
+ghost use Rattle.layout.specs.Read.{contents_of};
 ghost use Rattle.book.specs.Faults.{first_fault, sound_fault};
-ghost use Rattle.book.specs.inner.Opening.{OpensAs};
+ghost use Rattle.book.specs.inner.Opening.{before_rows, OpensAs};
 ghost use Rattle.values.specs.Refusals.{no_fault};
 
 use block::SIZE;
@@ -15,7 +16,7 @@ use reading::rows_fault;
 use values::Refusal;
 use values::head::{Parameters, parameters_in};
 
-// What a book says before its rows, where that has no fault: the edition, the parameters, and how many rows follow.
+// What a book says before its rows: the edition, the parameters, and how many rows follow.
 #[derive(Clone, Copy)]
 pub struct Opening {
     pub edition: u32,
@@ -23,21 +24,49 @@ pub struct Opening {
     pub rows: u32,
 }
 
-// What a book whose length holds says before its rows, or the first fault of that where it is to be cleared: 2, 3, then 4, then 5.
-pub fn opened(book: &[u8]) -> Result<Opening, Refusal>
-    requires { length_fault book.now ≡ no_fault }
-    ensures { OpensAs book.now result }
+// The first fault before the rows of a book, and what the book says there all the same.
+#[derive(Clone, Copy)]
+pub struct Unopened {
+    pub refusal: Refusal,
+    pub opening: Opening,
+}
+
+// Whoever hands the fault on keeps that alone.
+impl From<Unopened> for Refusal {
+    ghost from_gives = { λ unopened refusal. refusal ≡ unopened.refusal };
+
+    fn from(unopened: Unopened) -> Refusal {
+        unopened.refusal
+    }
+}
+
+// The first fault before the rows of a book whose length holds, where it is to be cleared: 2, 3, then 4, then 5.
+fn before_rows(book: &[u8], parameters: Parameters) -> Result<(), Refusal>
+    requires { (length_fault book.now ≡ no_fault) × (parameters ≡ (contents_of book.now).parameters) }
+    ensures { result ≡ before_rows book.now }
 {
     blocks_fault(book)?;
     let head = &book[0..SIZE];
-    let parameters = parameters_in(head);
     missing_in(head)?;
     parameter_fault(parameters)?;
-    Ok(Opening {
+    Ok(())
+}
+
+// What a book whose length holds says before its rows, with the first fault of that where the book is to be cleared.
+pub fn opened(book: &[u8]) -> Result<Opening, Unopened>
+    requires { length_fault book.now ≡ no_fault }
+    ensures { OpensAs book.now result }
+{
+    let parameters = parameters_in(&book[0..SIZE]);
+    let opening = Opening {
         edition: edition(book),
         parameters,
         rows: offer_count(book),
-    })
+    };
+    match before_rows(book, parameters) {
+        Ok(()) => Ok(opening),
+        Err(refusal) => Err(Unopened { refusal, opening }),
+    }
 }
 
 // The first fault of a book that is to be cleared: 1, 2, 3, then 4, then 5, then the rows' 6, 7, 8, 10.

@@ -1,91 +1,41 @@
--- `opened` is what a book says before its rows, or the first fault of that.
+-- `opened` is what a book says before its rows, whatever the first fault of that is.
 -- Assumes nothing.
-use mathlib.Core.Path.{◌≡◌, sym, ap, ◌∙◌}
-use mathlib.Core.List.{List}
-use Prim.Native.Nat.{ℕ, ◌≤◌}
-use lib.ListN.{length}
+use mathlib.Core.Path.{sym, ◌∙◌}
 use native.Mathlib.Omega.{arith}
-use Rattle.std.proofs.lemmas.Result.{err_from_is_err_and}
-use Rattle.values.specs.Refusals.{no_fault}
-use Rattle.values.proofs.Firsts.{and_then-next, and_then-refused}
-use Rattle.limits.specs.Parameters.{missing_fault, range_fault}
-use Rattle.limits.specs.Given.{parameters_fault}
 use Rattle.sections.specs.Blocks.{block_of}
-use Rattle.layout.specs.Form.{length_fault, form_fault}
 use Rattle.layout.specs.Read.{contents_of}
 use Rattle.layout.proofs.Contained.{contents-count}
 use Rattle.layout.proofs.Holding.{length-holds}
-use Rattle.book.proofs.Stages.{form-blocks, before-form-refused, before-formed}
 use Rattle.book.proofs.opened.Goals as goal
-use Rattle.book.proofs.opened.Goals.{In_ok-blocks_fault, After-missing_in, In_ok-missing_in, After-parameter_fault}
 
--- a book whose length holds has a block at least
-one_block : (b : List ℕ) → length_fault b ≡ no_fault → 512 ≤ length b
-one_block b e = (length-holds b e).least
-
-pub slice_bounds-head-end : goal.slice_bounds-head-end
-slice_bounds-head-end c = omega (arith, one_block _ c.requires)
+pub slice_bounds-parameters_in-end : goal.slice_bounds-parameters_in-end
+slice_bounds-parameters_in-end c = omega (arith, (length-holds _ c.requires).least)
 
 pub edition-requires : goal.edition-requires
-edition-requires c = one_block _ c.requires
+edition-requires c = (length-holds _ c.requires).least
 
 pub offer_count-requires : goal.offer_count-requires
-offer_count-requires c = one_block _ c.requires
+offer_count-requires c = (length-holds _ c.requires).least
 
-pub returns-in_err-blocks_fault : goal.returns-in_err-blocks_fault
-returns-in_err-blocks_fault c =
-    let failed = err_from_is_err_and c.from_residual.result c.from_residual.ensures.1 in
-    rw (failed.1, failed.2)
-    (before-form-refused _ (form-blocks _ c.requires ∙ sym c.blocks_fault.ensures ∙ c.in_err-blocks_fault.was))
-
--- past the blocks the form passed
-formed : (c : In_ok-blocks_fault) → form_fault c.args.book.now ≡ no_fault
-formed c = form-blocks _ c.requires ∙ sym c.blocks_fault.ensures ∙ c.in_ok-blocks_fault.was
-
--- what the calls ensure, of the parameters that the book says
-missing : (c : After-missing_in) → c.missing_in.result ≡ missing_fault (contents_of c.args.book.now).parameters
+pub before_rows-requires : goal.before_rows-requires
 unfolding contents_of block_of
-missing c = c.missing_in.ensures
+before_rows-requires c = (c.requires, c.parameters_in-parameters.ensures)
 
-given : (c : In_ok-missing_in)
-    → c.missing_in.result ≡ missing_fault (contents_of c.args.book.now).parameters
-    → missing_fault (contents_of c.args.book.now).parameters ≡ no_fault
-given c told = sym told ∙ c.in_ok-missing_in.was
-
-ranged : (c : After-parameter_fault) → c.parameter_fault.result ≡ range_fault (contents_of c.args.book.now).parameters
+pub returns-in-Ok : goal.returns-in-Ok
 unfolding contents_of block_of
-ranged c = c.parameter_fault.ensures ∙ ap range_fault c.parameters_in-parameters.ensures
-
-pub returns-in_err-missing_in : goal.returns-in_err-missing_in
-unfolding parameters_fault
-returns-in_err-missing_in c =
-    let at = goal.at.returns-in_err-missing_in c in
-    let failed = err_from_is_err_and c.from_residual-in_err-missing_in.result c.from_residual-in_err-missing_in.ensures.1 in
-    rw (failed.1, failed.2)
-    (before-formed _ (formed at.In_ok-blocks_fault)
-    ∙ and_then-refused _ _ _ (sym (missing at.After-missing_in) ∙ c.in_err-missing_in.was))
-
-pub returns-in_err-parameter_fault : goal.returns-in_err-parameter_fault
-unfolding parameters_fault
-returns-in_err-parameter_fault c =
-    let at = goal.at.returns-in_err-parameter_fault c in
-    let failed = err_from_is_err_and c.from_residual-in_err-parameter_fault.result c.from_residual-in_err-parameter_fault.ensures.1 in
-    rw (failed.1, failed.2)
-    (before-formed _ (formed at.In_ok-blocks_fault)
-    ∙ and_then-next _ _ (given at.In_ok-missing_in (missing at.After-missing_in))
-    ∙ sym (ranged at.After-parameter_fault)
-    ∙ c.in_err-parameter_fault.was)
-
-pub returns : goal.returns
-unfolding parameters_fault contents_of block_of
-returns c =
-    let at = goal.at.returns c in
+returns-in-Ok c =
     record {
-      passed =
-          before-formed _ (formed at.In_ok-blocks_fault)
-          ∙ and_then-next _ _ (given at.In_ok-missing_in (missing at.After-missing_in))
-          ∙ sym (ranged at.After-parameter_fault)
-          ∙ c.in_ok-parameter_fault.was;
+      passed = sym c.before_rows.ensures ∙ c.in-Ok.is;
+      edition = c.edition.ensures.0;
+      parameters = c.parameters_in-parameters.ensures;
+      rows = c.offer_count.ensures.0 ∙ contents-count _;
+    }
+
+pub returns-in-Err : goal.returns-in-Err
+unfolding contents_of block_of
+returns-in-Err c =
+    record {
+      refused = sym c.before_rows.ensures ∙ c.in-Err.is;
       edition = c.edition.ensures.0;
       parameters = c.parameters_in-parameters.ensures;
       rows = c.offer_count.ensures.0 ∙ contents-count _;

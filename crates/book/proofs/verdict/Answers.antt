@@ -20,7 +20,7 @@ opened-requires c = sym c.lengths.ensures ∙ c.in_ok-lengths.was
 pub returns-in_err-head : goal.returns-in_err-head
 returns-in_err-head c =
     let failed = err_from_is_err_and c.from_residual-in_err-head.result c.from_residual-in_err-head.ensures.1 in
-    rw (failed.1, failed.2) (sym (first-before _ ∙ and_then-refused _ _ _ c.in_err-head.ensures))
+    rw (failed.1, failed.2) (sym (first-before _ ∙ and_then-refused _ _ _ c.in_err-head.ensures.refused))
 
 pub rows_fault-requires : goal.rows_fault-requires
 rows_fault-requires c =

@@ -7,8 +7,8 @@ use Rattle.layout.specs.Read.{contents_of}
 use Rattle.layout.specs.Form.{form_fault}
 use Rattle.limits.specs.Given.{parameters_fault}
 use Rattle.book.specs.declared.Opening.{Opening}
+use Rattle.book.specs.declared.Unopened.{Unopened}
 use Rattle.std.specs.declared.result.Result.{Result}
-use Rattle.values.specs.declared.refusal.Refusal.{Refusal}
 
 -- what comes before the rows of a book that is to be cleared: 1; 2 over all blocks; 3 likewise; 4; 5 by field
 unfoldable pub before_rows : List ℕ → Verdict
@@ -21,7 +21,14 @@ pub record Opened (b : List ℕ) (e : ℕ) (p : Parameters) (n : ℕ) : Type 0 w
   pub parameters : p ≡ (contents_of b).parameters
   pub rows : n ≡ length (contents_of b).offers
 
--- what is told of a book before its rows: what it says there, which passed, or the first fault of that
-abbrev pub OpensAs : List ℕ → Result Opening Refusal → Type 0
+-- a fault that was found before the rows of a book, and the edition, the parameters and the number of rows that it says all the same
+pub record Refused (b : List ℕ) (u : Unopened) : Type 0 where
+  pub refused : before_rows b ≡ Err u.refusal
+  pub edition : u.opening.edition ≡ (contents_of b).edition
+  pub parameters : u.opening.parameters ≡ (contents_of b).parameters
+  pub rows : u.opening.rows ≡ length (contents_of b).offers
+
+-- what is told of a book before its rows: what it says there, which passed, or the first fault of that and what it says
+abbrev pub OpensAs : List ℕ → Result Opening Unopened → Type 0
 OpensAs b (Ok o) = Opened b o.edition o.parameters o.rows
-OpensAs b (Err refusal) = before_rows b ≡ Err refusal
+OpensAs b (Err u) = Refused b u

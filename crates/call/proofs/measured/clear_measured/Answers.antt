@@ -7,4 +7,4 @@ use Rattle.call.proofs.measured.clear_measured.Goals as goal
 pub returns-in_err-head : goal.returns-in_err-head
 returns-in_err-head c =
     let p = err_from_is_err_and c.from_residual.result c.from_residual.ensures.1 in
-    rw (p.1, p.2) (outcome-refused _ _ _ _ (fault-before _ _ _ _ c.in_err-head.ensures))
+    rw (p.1, p.2) (outcome-refused _ _ _ _ (fault-before _ _ _ _ c.in_err-head.ensures.refused))

@@ -14,4 +14,4 @@ returns-in_err-lengths c =
 pub returns-in_err-head : goal.returns-in_err-head
 returns-in_err-head c =
     let failed = err_from_is_err_and c.from_residual-in_err-head.result c.from_residual-in_err-head.ensures.1 in
-    rw (failed.1, failed.2) (answer-before _ _ _ c.in_err-head.ensures)
+    rw (failed.1, failed.2) (answer-before _ _ _ c.in_err-head.ensures.refused)
