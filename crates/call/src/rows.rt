@@ -5,7 +5,7 @@ ghost use Rattle.call.specs.Answer.{Outcome, buffer_fault};
 
 use book::Opening;
 use columns::Columns;
-use reading::read_rows;
+use reading::read_columns;
 use sale::Clearing;
 use sale::payment::clearing;
 use values::Refusal;
@@ -35,7 +35,7 @@ pub(crate) fn clear_in<const N: usize>(
 {
     let mut columns = Columns::<N>::blank();
     let n = head.rows as usize;
-    read_rows(book, head.edition, 1, head.rows, &mut columns)?;
+    read_columns(book, head.edition, 1, head.rows, &mut columns)?;
     buffer_fault(n, cleared.len(), committed.len())?;
     Ok(clearing(head.parameters, &columns.rows(n), cleared, committed))
 }

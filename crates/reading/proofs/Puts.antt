@@ -2,7 +2,7 @@
 --
 -- In order: no row yet; one more row; the columns are as long as they were; the loop's end.
 -- Assumes nothing.
-use mathlib.Core.Path.{◌≡◌, refl, sym, ap, ap₂, subst, ◌∙◌}
+use mathlib.Core.Path.{◌≡◌, sym, ap, ap₂, ◌∙◌}
 use mathlib.Core.Bool.{Bool, true, ◌&&◌}
 use mathlib.Core.List.{List}
 use Prim.Native.Nat.{ℕ, ◌+◌, ◌≤◌}
@@ -11,12 +11,13 @@ use native.Mathlib.Omega.{arith}
 use lib.ListN.{length}
 use Rattle.laws.proofs.Everys.{every-zero, every-suc}
 use Rattle.laws.proofs.Filling.{length-filling}
+use Rattle.values.specs.Values.{held}
+use Rattle.values.specs.inner.Values.{least_of}
 use Rattle.values.specs.Contents.{offer_at}
 use Rattle.values.specs.declared.place.Offer.{Offer}
 use Rattle.columns.specs.inner.Column.{row_resource, row_step}
-use Rattle.columns.specs.inner.Columns.{Columns, Room, ColumnsRead}
-use Rattle.columns.specs.inner.Sides.{with_row}
-use Rattle.columns.proofs.Turns.{columns-none, columns-more}
+use Rattle.columns.specs.inner.Columns.{Columns, Room}
+use Rattle.columns.proofs.Turns.{stored, columns-none, columns-more}
 use Rattle.reading.specs.inner.Lanes.{rest_holds, RowsPut}
 
 module _ (offers : List Offer) where
@@ -25,13 +26,13 @@ module _ (offers : List Offer) where
   put-none lists = record { rest = sym (every-zero _); read = columns-none offers lists }
 
   -- one more row
-  pub put-more : (row : ℕ) {told holds : Bool} {before after next : Columns} {o : Offer}
-      → RowsPut offers row told before after → o ≡ offer_at offers row → next ≡ with_row after row o
-      → holds ≡ rest_holds o → RowsPut offers (row + 1) (told && holds) before next
-  put-more row {before = before} put own e h =
+  pub put-more : (row : ℕ) {told holds : Bool} {before after : Columns} {o : Offer} {price least : ℕ}
+      → RowsPut offers row told before after → o ≡ offer_at offers row → price ≡ held o.price → least ≡ least_of o.block
+      → holds ≡ rest_holds o → RowsPut offers (row + 1) (told && holds) before (stored after row o price least)
+  put-more row put own p l h =
       record {
         rest = rw (add-one, every-suc) (ap₂ ◌&&◌ put.rest (h ∙ ap rest_holds own));
-        read = subst (ColumnsRead offers (row + 1) before) (sym e) (columns-more offers row put.read own refl refl);
+        read = columns-more offers row put.read own p l;
       }
 
   -- the columns still have room for all rows

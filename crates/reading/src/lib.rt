@@ -6,7 +6,7 @@ mod put;
 mod tested;
 
 ghost use Rattle.std.specs.Prelude.{◌≡◌, ◌≤◌};
-ghost use Rattle.columns.specs.inner.Columns.{Room};
+ghost use Rattle.columns.specs.inner.Columns.{columns_of, Room};
 ghost use Rattle.columns.specs.inner.Sides.{lists_in};
 ghost use Rattle.limits.specs.Offers.{rows_fault};
 ghost use Rattle.values.specs.Contents.{offer_at};
@@ -23,7 +23,39 @@ use values::Refusal;
 
 // The first fault of n rows that stand from the block `first` on, each tested for 6, 7, 8 and 10. All of them are put into the columns,
 // where they are tested; only where one fails are they gone through for the first fault.
-pub fn read_rows<const N: usize>(
+pub fn read_rows(
+    book: &[u8],
+    edition: u32,
+    first: usize,
+    n: u32,
+    prices: &mut [u32],
+    quantities: &mut [u32],
+    leasts: &mut [u32],
+    resources: &mut [u32],
+    stamps: &mut [u64],
+    steps: &mut [u32],
+) -> Result<(), Refusal>
+    requires { Inside book.now first n × Room n (columns_of prices.old quantities.old leasts.old resources.old stamps.old steps.old) }
+    ensures { RowsRead edition (row_offers book.now edition first n) result
+        (columns_of prices.old quantities.old leasts.old resources.old stamps.old steps.old)
+        (columns_of prices.new quantities.new leasts.new resources.new stamps.new steps.new) }
+{
+    let told = put_rows(
+        book, edition, first, n, prices, quantities, leasts, resources, stamps, steps,
+    );
+    let held = columns_hold(
+        edition, prices, quantities, leasts, resources, steps, n as usize,
+    );
+    let found = if told & held {
+        Ok(())
+    } else {
+        values_tested(book, edition, first, n, true, resources, steps)
+    };
+    with_repeats(found, resources, steps, n)
+}
+
+// The same of rows that are put into columns which stand together.
+pub fn read_columns<const N: usize>(
     book: &[u8],
     edition: u32,
     first: usize,
@@ -33,22 +65,18 @@ pub fn read_rows<const N: usize>(
     requires { Inside book.now first n × (n ≤ N) × Room n (lists_in columns.old) }
     ensures { RowsRead edition (row_offers book.now edition first n) result (lists_in columns.old) (lists_in columns.new) }
 {
-    let told = put_rows(book, edition, first, n, columns);
-    let held = columns_hold(edition, columns, n as usize);
-    let found = if told & held {
-        Ok(())
-    } else {
-        values_tested(
-            book,
-            edition,
-            first,
-            n,
-            true,
-            &mut columns.resources,
-            &mut columns.steps,
-        )
-    };
-    with_repeats(found, &columns.resources, &columns.steps, n)
+    read_rows(
+        book,
+        edition,
+        first,
+        n,
+        &mut columns.prices,
+        &mut columns.quantities,
+        &mut columns.leasts,
+        &mut columns.resources,
+        &mut columns.stamps,
+        &mut columns.steps,
+    )
 }
 
 // The first fault of the n offers of a book alone, of which only the resource numbers and the steps are kept.

@@ -13,7 +13,7 @@ use book::{Opening, opened};
 use columns::Columns;
 use ladder::rung::Ladder;
 use layout::form::lengths;
-use reading::read_rows;
+use reading::read_columns;
 use reasons::share::Share;
 use reasons::stop::Stop;
 use units::CentsPerMwDay;
@@ -43,7 +43,7 @@ fn works_opened(
     ensures { result ≡ worked_by (first_fault book.now) (works_of (contents_of book.now) row rung place) }
 {
     let mut columns = Columns::<600>::blank();
-    read_rows(book, head.edition, 1, head.rows, &mut columns)?;
+    read_columns(book, head.edition, 1, head.rows, &mut columns)?;
     let rows = columns.rows(head.rows as usize);
     Ok(works_at(head.parameters, &rows, row, rung, place))
 }

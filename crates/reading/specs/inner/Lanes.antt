@@ -3,7 +3,7 @@
 --
 -- In order: one row by its own columns, by those of the row before it and by what no column tells; all rows; the rows put.
 -- Assumes nothing.
-use Rattle.std.specs.Prelude.{ℕ, ◌+◌, ◌-◌, ◌%◌, ◌≡◌, Bool, cond, ◌&&◌, ◌||◌, List, get_or, eqb, leb, ltb}
+use Rattle.std.specs.Prelude.{ℕ, ◌+◌, ◌-◌, ◌%◌, ◌≤◌, ◌≡◌, Bool, cond, ◌&&◌, ◌||◌, List, length, get_or, eqb, leb, ltb}
 use Rattle.laws.specs.Sum.{every}
 use Rattle.values.specs.Contents.{offer_at}
 use Rattle.values.specs.declared.place.Offer.{Offer}
@@ -32,6 +32,15 @@ rest_holds o = leb 1 o.seller && (eqb o.step 1 || flexible o.block)
 -- ---- all rows
 
 module _ (prices quantities leasts resources steps : List ℕ) where
+  -- n rows stand in each of five columns
+  abbrev pub Long : ℕ → Type 0
+  Long n =
+      (n ≤ length prices)
+      × ((n ≤ length quantities)
+      × ((n ≤ length leasts)
+      × ((n ≤ length resources)
+      × (n ≤ length steps))))
+
   abbrev pub values_hold : ℕ → Bool
   values_hold n =
       every

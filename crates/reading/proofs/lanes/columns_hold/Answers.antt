@@ -5,7 +5,7 @@ use borrow.Author.Tests.{eq-eqb, ne_eqb}
 use Rattle.reading.proofs.lanes.columns_hold.Goals as goal
 
 pub returns-then-edition-eq1 : goal.returns-then-edition-eq1
-returns-then-edition-eq1 g c = rw (eq-eqb _ _ c.if-edition-eq1.true, and-true) c.values_hold-values.ensures
+returns-then-edition-eq1 c = rw (eq-eqb _ _ c.if-edition-eq1.true, and-true) c.values_hold-values.ensures
 
 pub returns : goal.returns
-returns g c = simp (ne_eqb _ _ c.if-edition-eq1.false, c.values_hold-values.ensures, c.steps_hold.ensures)
+returns c = simp (ne_eqb _ _ c.if-edition-eq1.false, c.values_hold-values.ensures, c.steps_hold.ensures)

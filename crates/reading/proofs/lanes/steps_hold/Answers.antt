@@ -12,16 +12,16 @@ use Rattle.laws.proofs.Everys.{every-zero, every-suc}
 use Rattle.reading.proofs.lanes.steps_hold.Goals as goal
 
 pub returns-then-n-eq0 : goal.returns-then-n-eq0
-returns-then-n-eq0 g c = let none = c.if-n-eq0.true in rw none (sym (every-zero _))
+returns-then-n-eq0 c = let none = c.if-n-eq0.true in rw none (sym (every-zero _))
 
 pub loop-row-init : goal.loop-row-init
-loop-row-init g c = (
+loop-row-init c = (
   (omega arith, omega arith),
   sym (every-suc _ 0 ∙ ap₂ ◌&&◌ (every-zero _) refl),
 )
 
 pub loop-row-preserved : goal.loop-row-preserved
-loop-row-preserved g c = (
+loop-row-preserved c = (
   (omega arith, omega arith),
   rw (add-one, every-suc)
       (ap₂ ◌&&◌ c.loop-row.invariant.1
@@ -29,4 +29,4 @@ loop-row-preserved g c = (
 )
 
 pub returns : goal.returns
-returns g c = c.loop-row.invariant.1 ∙ ap (every _) (omega arith)
+returns c = c.loop-row.invariant.1 ∙ ap (every _) (omega arith)

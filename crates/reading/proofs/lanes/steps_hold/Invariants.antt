@@ -7,4 +7,4 @@ use Rattle.reading.specs.inner.Lanes.{steps_hold}
 use Rattle.reading.proofs.lanes.steps_hold.Given as goal
 
 abbrev pub invariant-loop-row : goal.invariant-loop-row
-invariant-loop-row g l = ((1 ≤ l.row) × (l.row ≤ l.n)) × (l.all ≡ steps_hold l.columns.prices l.columns.resources l.columns.steps l.row)
+invariant-loop-row l = ((1 ≤ l.row) × (l.row ≤ l.n)) × (l.all ≡ steps_hold l.prices l.resources l.steps l.row)

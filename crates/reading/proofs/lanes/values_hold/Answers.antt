@@ -9,10 +9,10 @@ use Rattle.laws.proofs.Everys.{every-zero, every-suc}
 use Rattle.reading.proofs.lanes.values_hold.Goals as goal
 
 pub loop-row-init : goal.loop-row-init
-loop-row-init g c = (omega arith, sym (every-zero _))
+loop-row-init c = (omega arith, sym (every-zero _))
 
 pub loop-row-preserved : goal.loop-row-preserved
-loop-row-preserved g c = (omega arith, rw (add-one, every-suc) (ap₂ ◌&&◌ c.loop-row.invariant.1 c.row_holds-all.ensures))
+loop-row-preserved c = (omega arith, rw (add-one, every-suc) (ap₂ ◌&&◌ c.loop-row.invariant.1 c.row_holds-all.ensures))
 
 pub returns : goal.returns
-returns g c = c.loop-row.invariant.1 ∙ ap (every _) (omega arith)
+returns c = c.loop-row.invariant.1 ∙ ap (every _) (omega arith)

@@ -6,4 +6,4 @@ use Rattle.reading.specs.inner.Lanes.{values_hold}
 use Rattle.reading.proofs.lanes.values_hold.Given as goal
 
 abbrev pub invariant-loop-row : goal.invariant-loop-row
-invariant-loop-row g l = (l.row ≤ l.n) × (l.all ≡ values_hold l.columns.prices l.columns.quantities l.columns.leasts l.columns.resources l.columns.steps l.row)
+invariant-loop-row l = (l.row ≤ l.n) × (l.all ≡ values_hold l.prices l.quantities l.leasts l.resources l.steps l.row)
