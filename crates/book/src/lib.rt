@@ -46,10 +46,7 @@ fn before_rows(book: &[u8], parameters: Parameters) -> Result<(), Refusal>
     ensures { result ≡ before_rows book.now }
 {
     blocks_fault(book)?;
-    let head = &book[0..SIZE];
-    missing_in(head)?;
-    parameter_fault(parameters)?;
-    Ok(())
+    missing_in(&book[0..SIZE]).and(parameter_fault(parameters))
 }
 
 // What a book whose length holds says before its rows, with the first fault of that where the book is to be cleared.
