@@ -23,6 +23,21 @@ abbrev pub clearing_cents : ClearingPrice → ℕ
 clearing_cents (Some cents) = cents.0
 clearing_cents None = no_value
 
+-- a refusal by its number at its place, which has no other value
+abbrev pub answer_refused : ℕ → ℕ → OzpAnswer
+answer_refused number place =
+    record {
+      make_whole = no_amount;
+      daily = no_amount;
+      year = no_amount;
+      kind = 3;
+      total = no_value;
+      price = no_value;
+      rows = no_value;
+      number = number;
+      place = place;
+    }
+
 -- a clearing of so many rows, priced or not, or a refusal
 abbrev pub exported : Answer → ℕ → OzpAnswer
 exported (Ok c) rows =
@@ -37,18 +52,7 @@ exported (Ok c) rows =
       number = no_value;
       place = no_value;
     }
-exported (Err refusal) rows =
-    record {
-      make_whole = no_amount;
-      daily = no_amount;
-      year = no_amount;
-      kind = 3;
-      total = no_value;
-      price = no_value;
-      rows = no_value;
-      number = number_of refusal;
-      place = place_of refusal;
-    }
+exported (Err refusal) rows = answer_refused (number_of refusal) (place_of refusal)
 
 -- ---- a row's make-whole
 

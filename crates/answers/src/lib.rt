@@ -2,7 +2,7 @@
 #![tactic(auto)]
 
 ghost use Rattle.std.specs.Prelude.{◌≡◌, Ok};
-ghost use Rattle.answers.specs.Answers.{clearing_kind, clearing_cents, exported};
+ghost use Rattle.answers.specs.Answers.{clearing_kind, clearing_cents, exported, answer_refused};
 ghost use Rattle.answers.specs.inner.Answers.{rows_stated};
 
 use block::SIZE;
@@ -72,16 +72,23 @@ fn cleared(c: Clearing, rows: u32) -> OzpAnswer
     }
 }
 
+// A refusal by any number at any place.
+pub fn answer_refused(number: u32, place: u32) -> OzpAnswer
+    ensures { result ≡ answer_refused number place }
+{
+    OzpAnswer {
+        number,
+        place,
+        ..NO_ANSWER
+    }
+}
+
 // What a call answers for a book of so many rows: a refusal has its number and its place, and no other value.
 pub fn answer(a: Result<Clearing, Refusal>, rows: u32) -> OzpAnswer
     ensures { result ≡ exported a rows }
 {
     match a {
         Ok(c) => cleared(c, rows),
-        Err(refusal) => OzpAnswer {
-            number: refusal.number(),
-            place: refusal.place(),
-            ..NO_ANSWER
-        },
+        Err(refusal) => answer_refused(refusal.number(), refusal.place()),
     }
 }
