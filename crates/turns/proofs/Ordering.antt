@@ -1,18 +1,15 @@
 -- The order of spare tenths, as contenders have it.
 --
--- In order: a comparison of keys in order; a row's contender is what the level makes of it, and contenders are in the order of the rows; how many stand before a row's contender is the row's rank; what decides between
+-- In order: contenders told apart by the key that decides between them; a row's contender is what the level makes of it, and contenders are in the order of the rows; how many stand before a row's contender is the row's rank; what decides between
 -- two contenders decides between their rows.
 -- Assumes nothing.
 use mathlib.Core.Path.{◌≡◌, refl, sym, ap, subst, ◌∙◌}
 use mathlib.Core.Bool.{Bool, true, false, cond, ◌&&◌, ◌||◌}
 use Prim.Native.Nat.{ℕ}
+use native.Mathlib.Omega.{arith}
 use lib.Dec.{ltb, eqb}
-use borrow.Author.Tests.{eqb-true}
-use Rattle.std.specs.Prelude.{Some}
-use Rattle.std.specs.Ordering.{is_some_and, nat_cmp, partial_ordering_then, is_lt}
-use Rattle.std.specs.declared.option.Option.{Option}
-use Rattle.std.specs.declared.cmp.Ordering.{Ordering}
-use Rattle.std.specs.declared.cmp.Ordering.TheVariants.{Less, Equal, Greater}
+use borrow.Author.Tests.{eqb-true, eq-eqb, ne_eqb, le-ltb}
+use Rattle.laws.proofs.Cases.{by-equality}
 use Rattle.laws.proofs.Counts.{count_where-within}
 use Rattle.auction.specs.Offers.{Offers}
 use Rattle.auction.specs.Shares.{weighted, remainder, ahead, rank}
@@ -20,35 +17,47 @@ use Rattle.reasons.specs.inner.Share.{LevelAt}
 use Rattle.reasons.specs.declared.share.Received.{Received}
 use Rattle.turns.specs.Order.{contender_at}
 use Rattle.turns.specs.declared.order.Contender.{Contender}
+use Rattle.turns.specs.declared.order.Key.{Key}
+use Rattle.turns.specs.declared.order.Key.TheVariants.{Remainder, Stamp, Resource, Step}
 use Rattle.turns.specs.Turn.{decided_by}
 use Rattle.turns.specs.inner.Contending.{contender_of, ahead_of, decided_of, before_in}
 
--- how a key compares, by whether it is lower and whether it is the same
-abbrev compared : (lower same : Bool) → Option Ordering
-compared lower same = Some (cond lower Less (cond same Equal Greater))
+or-none : (t : Bool) → t ≡ (t || false)
+or-none true = refl
+or-none false = refl
 
--- of four keys compared in order the first that differs decides
-first-differs : (a b c d e f g h : Bool)
-    → is_some_and is_lt (partial_ordering_then (partial_ordering_then (partial_ordering_then (compared a b) (compared c d)) (compared e f)) (compared g h))
-    ≡ (a || (b && (c || (d && (e || (f && g))))))
-first-differs true b c d e f g h = refl
-first-differs false false c d e f g h = refl
-first-differs false true true d e f g h = refl
-first-differs false true false false e f g h = refl
-first-differs false true false true true f g h = refl
-first-differs false true false true false false g h = refl
-first-differs false true false true false true true h = refl
-first-differs false true false true false true false true = refl
-first-differs false true false true false true false false = refl
+either-way : (m n : ℕ) → eqb m n ≡ eqb n m
+either-way m n =
+    by-equality m n
+    (λ e. rw (eq-eqb m n e, eq-eqb n m (sym e)))
+    (λ ne. rw (ne_eqb m n ne, ne_eqb n m (λ e. ne (sym e))))
 
--- the keys of two contenders compared in order, the remainders the other way round
-pub ahead-compared : (a b : Contender)
-    → is_some_and is_lt (partial_ordering_then (partial_ordering_then (partial_ordering_then (Some (nat_cmp b.remainder a.remainder)) (Some (nat_cmp a.stamp b.stamp))) (Some (nat_cmp a.resource b.resource))) (Some (nat_cmp a.step b.step)))
-    ≡ ahead_of a b
-unfolding ahead_of
-ahead-compared a b =
-    first-differs (ltb b.remainder a.remainder) (eqb b.remainder a.remainder) (ltb a.stamp b.stamp) (eqb a.stamp b.stamp)
-    (ltb a.resource b.resource) (eqb a.resource b.resource) (ltb a.step b.step) (eqb a.step b.step)
+-- one key of two contenders: where it differs it decides, and where it is the same the other keys do
+key-told : (told : Key → Bool) (m n : ℕ) (same other : Key) (rest : Bool)
+    → told other ≡ ltb m n → told same ≡ rest → told (cond (eqb m n) same other) ≡ (ltb m n || (eqb m n && rest))
+key-told told m n same other rest d e =
+    by-equality m n
+    (λ h. rw (eq-eqb m n h, le-ltb m n (omega arith)) e)
+    (λ h. rw (ne_eqb m n h) (d ∙ or-none (ltb m n)))
+
+-- the first stands before the second by one key: the larger remainder, of all others the lower
+abbrev pub before-by : Contender → Contender → Key → Bool
+before-by a b Remainder = ltb b.remainder a.remainder
+before-by a b Stamp = ltb a.stamp b.stamp
+before-by a b Resource = ltb a.resource b.resource
+before-by a b Step = ltb a.step b.step
+
+-- the first stands before the second if it does by the key that decides between them
+before-by-decided : (a b : Contender) → before-by a b (decided_of a b) ≡ ahead_of a b
+unfolding decided_of ahead_of
+before-by-decided a b =
+    rw (either-way a.remainder b.remainder)
+    (key-told (before-by a b) b.remainder a.remainder _ Remainder _ refl
+    (key-told (before-by a b) a.stamp b.stamp _ Stamp _ refl
+    (key-told (before-by a b) a.resource b.resource Step Resource _ refl refl)))
+
+pub ahead-decided : (a b : Contender) (key : Key) → key ≡ decided_of a b → before-by a b key ≡ ahead_of a b
+ahead-decided a b key e = ap (before-by a b) e ∙ before-by-decided a b
 
 module _ (o : Offers) (x : ℕ) where
   -- a row's contender is what its level makes of it

@@ -39,11 +39,17 @@ impl Key {
     }
 }
 
-// The first stands before the second: of remainders the larger is first, of all other keys the lower.
+// The first stands before the second: of remainders the larger is first, of all other keys the lower. It is asked of each two
+// rows of a level, and leaves at the first key that differs.
 fn ahead(a: Contender, b: Contender) -> bool
     ensures { result ≡ ahead_of a b }
 {
-    (b.remainder, a.stamp, a.resource, a.step) < (a.remainder, b.stamp, b.resource, b.step)
+    match decided(a, b) {
+        Key::Remainder => b.remainder < a.remainder,
+        Key::Stamp => a.stamp < b.stamp,
+        Key::Resource => a.resource < b.resource,
+        Key::Step => a.step < b.step,
+    }
 }
 
 // What decides between two contenders: the first key in which they differ.
