@@ -45,7 +45,10 @@ pub fn parts(asks: &Asks, level: Level, out: &mut [u32])
     requires out_in_bounds { length asks.now.prices.now ≤ length out.old }
     ensures { out.new ≡ filled (row_part level asks.now.prices.now asks.now.quantities.now) (length asks.now.prices.now) out.old }
 {
-    for row in 0..asks.prices.len() {
-        out[row] = part(asks.prices[row], asks.quantities[row], level);
+    // named before the loop: read through `asks`, each list's place and length would be fetched again after every row that is written
+    let prices = asks.prices;
+    let quantities = asks.quantities;
+    for row in 0..prices.len() {
+        out[row] = part(prices[row], quantities[row], level);
     }
 }

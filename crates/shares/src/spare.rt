@@ -43,9 +43,12 @@ fn line_up(asks: &Asks, shares: &[u32], level: Level, keys: &mut [u32], standing
     ensures keys_after { keys.new ≡ filled (row_key level asks.now.prices.now asks.now.quantities.now) (length asks.now.prices.now) keys.old }
     ensures standings_after { standings.new ≡ filled (row_standing level asks.now.prices.now) (length asks.now.prices.now) standings.old }
 {
-    for row in 0..asks.prices.len() {
-        keys[row] = key(asks.prices[row], asks.quantities[row], shares[row], level);
-        standings[row] = standing(asks.prices[row], level.price);
+    // named before the loop: read through `asks`, each list's place and length would be fetched again after every row that is written
+    let prices = asks.prices;
+    let quantities = asks.quantities;
+    for row in 0..prices.len() {
+        keys[row] = key(prices[row], quantities[row], shares[row], level);
+        standings[row] = standing(prices[row], level.price);
     }
 }
 
