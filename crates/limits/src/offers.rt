@@ -51,7 +51,8 @@ pub fn offer_fault(needed: bool, edition: u32, o: Offer, row: u32) -> Result<(),
     Ok(())
 }
 
-// 6, where prices are needed, 7 and 10 of a row past step 1, which follows the row before it or does not.
+// 6, where prices are needed, 7 and 10 of a row past step 1, which follows the row before it or does not. The offer is tested in either
+// case: a row that follows then leaves at the first test that fails, as a row of step 1 does.
 #[tactic(auto, using(values::proofs::Firsts::in_turn), unfolding(crate::specs::inner::Rows::past_fault))]
 pub fn past_fault(
     needed: bool,
@@ -62,9 +63,9 @@ pub fn past_fault(
 ) -> Result<(), Refusal>
     ensures { result ≡ past_fault needed edition o follows row }
 {
-    offer_fault(needed, edition, o, row)?;
-    if !follows {
-        return Err(Refusal::BrokenSteps(row));
+    if follows {
+        return offer_fault(needed, edition, o, row);
     }
-    Ok(())
+    offer_fault(needed, edition, o, row)?;
+    Err(Refusal::BrokenSteps(row))
 }
