@@ -1,53 +1,16 @@
 -- The ladder of prices, step by step.
 --
--- In order: what is picked of a list is what is picked place after place; a price down and a price up; a price that was found is no
--- higher than those of the rows.
+-- In order: a price down and a price up; a price that was found is no higher than those of the rows.
 -- Assumes nothing.
-use mathlib.Core.Path.{◌≡◌, refl, sym, ap, ◌∙◌}
+use mathlib.Core.Path.{◌≡◌, sym, ap, ◌∙◌}
 use mathlib.Core.Bool.{Bool, true, false, cond}
-use mathlib.Core.List.{List, [], ◌∷◌, ◌++◌}
 use Prim.Native.Nat.{ℕ, zero, suc, ◌+◌, ◌≤◌, ◌<◌, min}
 use native.Mathlib.Nat.{le_refl}
 use native.Mathlib.Omega.{arith}
 use lib.Dec.{leb}
-use lib.ListN.{length, take, get_or}
-use Rattle.std.proofs.Math.Seq.{take-length}
-use Rattle.std.proofs.lemmas.List.{append-nil}
-use Rattle.std.proofs.lemmas.List.Elements.{filter_more}
-use Rattle.std.proofs.lemmas.List.Sums.{fold_push}
-use Rattle.std.specs.List.{filter, fold, reduce}
 use Rattle.std.specs.Prelude.{Some, None}
 use Rattle.std.specs.declared.option.Option.{Option}
 use Rattle.ladder.specs.Prices.{of_both, pick_where, lowest_from, highest_under, down, rung_price, onward}
-
--- ---- what is picked of a list, where of two it does not matter which is the first
-
-module _ (pick : ℕ → ℕ → ℕ) (either : (a b : ℕ) → pick a b ≡ pick b a) where
-  last-picked : (ys : List ℕ) (x : ℕ) → reduce pick (ys ++ x ∷ []) ≡ Some (of_both pick x (reduce pick ys))
-  last-picked [] x = refl
-  last-picked (y ∷ ys) x = ap Some (fold_push pick y ys x ∙ either (fold pick y ys) x)
-
-  next-picked : (t : Bool) (ys : List ℕ) (x : ℕ)
-      → reduce pick (ys ++ cond t (x ∷ []) []) ≡ cond t (Some (of_both pick x (reduce pick ys))) (reduce pick ys)
-  next-picked true ys x = last-picked ys x
-  next-picked false ys x = ap (reduce pick) (append-nil ys)
-
-  module _ (test : ℕ → Bool) (xs : List ℕ) where
-    abbrev value : ℕ → ℕ
-    value i = get_or xs i 0
-
-    first-picked : (n : ℕ) → n ≤ length xs → reduce pick (filter test (take n xs)) ≡ pick_where pick (λ i. test (value i)) value n
-    unfolding pick_where
-    first-picked zero l = refl
-    first-picked (suc n) l =
-        ap (λ (k : ℕ). reduce pick (filter test (take k xs))) {x = suc n} {y = n + 1} (omega arith)
-        ∙ ap (reduce pick) (filter_more test xs n 0 l)
-        ∙ next-picked (test (value n)) (filter test (take n xs)) (value n)
-        ∙ ap (λ (r : Option ℕ). cond (test (value n)) (Some (of_both pick (value n) r)) r) (first-picked n (omega arith))
-
-    pub picked : reduce pick (filter test xs) ≡ pick_where pick (λ i. test (value i)) value (length xs)
-    picked =
-        ap (λ (ys : List ℕ). reduce pick (filter test ys)) (sym (take-length xs)) ∙ first-picked (length xs) (le_refl (length xs))
 
 -- ---- a price down and a price up
 

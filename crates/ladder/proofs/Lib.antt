@@ -1,3 +1,4 @@
 pub mod Climbs
+pub mod Nearest
 pub mod Rungs
 pub mod Decided

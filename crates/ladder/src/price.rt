@@ -3,18 +3,23 @@ ghost use Rattle.std.specs.Prelude.{◌≡◌, length};
 ghost use Rattle.ladder.specs.Prices.{lowest_from, highest_under, down, rung_price};
 ghost use Rattle.ladder.specs.inner.Found.{price_at, Cheap};
 
-// The lowest price that is not under `from`.
+// The lowest price that is not under `from`. The difference to a price under `from` wraps round to more than that to any price from
+// there on, so that no price is tested on its way, and the loop runs in lanes.
 fn lowest_from(prices: &[u32], from: u32) -> Option<u32>
     ensures { result ≡ lowest_from (price_at prices.now) (length prices.now) from }
 {
-    prices.iter().copied().filter(|price| from <= *price).min()
+    let over = prices.iter().map(|price| price.wrapping_sub(from)).min()?;
+    from.checked_add(over)
 }
 
-// The highest price that is under a limit.
+// The highest price that is under a limit. The difference from the number before the limit down to a price at the limit or over it
+// wraps round too.
 fn highest_under(prices: &[u32], limit: u32) -> Option<u32>
     ensures { result ≡ highest_under (price_at prices.now) (length prices.now) limit }
 {
-    prices.iter().copied().filter(|price| *price < limit).max()
+    let last = limit.checked_sub(1)?;
+    let under = prices.iter().map(|price| last.wrapping_sub(*price)).min()?;
+    last.checked_sub(under)
 }
 
 // The price that lies k prices under a limit; the lowest of them where there are fewer.
