@@ -55,8 +55,8 @@ opened-decided κs book (Err u) (Err w) e f = λ i.
     Err (record {
       refusal = one_fault e.refused f.refused i;
       opening = record {
-        edition = (e.edition ∙ sym f.edition) i;
-        parameters = (e.parameters ∙ sym f.parameters) i;
-        rows = (e.rows ∙ sym f.rows) i;
+        edition = (e.said.edition ∙ sym f.said.edition) i;
+        parameters = (e.said.parameters ∙ sym f.said.parameters) i;
+        rows = (e.said.rows ∙ sym f.said.rows) i;
       };
     })

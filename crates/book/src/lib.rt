@@ -3,9 +3,8 @@
 
 ghost use Rattle.std.specs.Prelude.{◌≡◌};
 ghost use Rattle.layout.specs.Form.{length_fault};
-ghost use Rattle.layout.specs.Read.{contents_of};
 ghost use Rattle.book.specs.Faults.{first_fault, sound_fault};
-ghost use Rattle.book.specs.inner.Opening.{before_rows, OpensAs};
+ghost use Rattle.book.specs.inner.Opening.{before_rows, SaidIn, OpensAs};
 ghost use Rattle.values.specs.Refusals.{no_fault};
 
 use block::SIZE;
@@ -41,12 +40,25 @@ impl From<Unopened> for Refusal {
 }
 
 // The first fault before the rows of a book whose length holds, where it is to be cleared: 2, 3, then 4, then 5.
-fn before_rows(book: &[u8], parameters: Parameters) -> Result<(), Refusal>
-    requires { (length_fault book.now ≡ no_fault) × (parameters ≡ (contents_of book.now).parameters) }
+fn before_rows(book: &[u8]) -> Result<(), Refusal>
+    requires { length_fault book.now ≡ no_fault }
     ensures { result ≡ before_rows book.now }
 {
     blocks_fault(book)?;
-    missing_in(&book[0..SIZE]).and(parameter_fault(parameters))
+    let head = &book[0..SIZE];
+    missing_in(head).and(parameter_fault(parameters_in(head)))
+}
+
+// What a book says before its rows, refused or not.
+fn opening_in(book: &[u8]) -> Opening
+    requires { length_fault book.now ≡ no_fault }
+    ensures { SaidIn book.now result }
+{
+    Opening {
+        edition: edition(book),
+        parameters: parameters_in(&book[0..SIZE]),
+        rows: offer_count(book),
+    }
 }
 
 // What a book whose length holds says before its rows, with the first fault of that where the book is to be cleared.
@@ -54,15 +66,12 @@ pub fn opened(book: &[u8]) -> Result<Opening, Unopened>
     requires { length_fault book.now ≡ no_fault }
     ensures { OpensAs book.now result }
 {
-    let parameters = parameters_in(&book[0..SIZE]);
-    let opening = Opening {
-        edition: edition(book),
-        parameters,
-        rows: offer_count(book),
-    };
-    match before_rows(book, parameters) {
-        Ok(()) => Ok(opening),
-        Err(refusal) => Err(Unopened { refusal, opening }),
+    match before_rows(book) {
+        Ok(()) => Ok(opening_in(book)),
+        Err(refusal) => Err(Unopened {
+            refusal,
+            opening: opening_in(book),
+        }),
     }
 }
 

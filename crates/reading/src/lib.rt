@@ -22,7 +22,9 @@ use limits::repeated::with_repeats;
 use values::Refusal;
 
 // The first fault of n rows that stand from the block `first` on, each tested for 6, 7, 8 and 10. All of them are put into the columns,
-// where they are tested; only where one fails are they gone through for the first fault.
+// where they are tested; only where one fails are they gone through for the first fault. It is inlined: columns that stand together are
+// then reached from one pointer, at distances that are known, where six pointers cost more than a nanosecond a row.
+#[inline(always)]
 pub fn read_rows(
     book: &[u8],
     edition: u32,

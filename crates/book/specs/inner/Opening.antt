@@ -21,12 +21,16 @@ pub record Opened (b : List ℕ) (e : ℕ) (p : Parameters) (n : ℕ) : Type 0 w
   pub parameters : p ≡ (contents_of b).parameters
   pub rows : n ≡ length (contents_of b).offers
 
--- a fault that was found before the rows of a book, and the edition, the parameters and the number of rows that it says all the same
+-- the edition, the parameters and the number of rows that a book says, refused or not
+pub record SaidIn (b : List ℕ) (o : Opening) : Type 0 where
+  pub edition : o.edition ≡ (contents_of b).edition
+  pub parameters : o.parameters ≡ (contents_of b).parameters
+  pub rows : o.rows ≡ length (contents_of b).offers
+
+-- a fault that was found before the rows of a book, and what it says there all the same
 pub record Refused (b : List ℕ) (u : Unopened) : Type 0 where
   pub refused : before_rows b ≡ Err u.refusal
-  pub edition : u.opening.edition ≡ (contents_of b).edition
-  pub parameters : u.opening.parameters ≡ (contents_of b).parameters
-  pub rows : u.opening.rows ≡ length (contents_of b).offers
+  pub said : SaidIn b u.opening
 
 -- what is told of a book before its rows: what it says there, which passed, or the first fault of that and what it says
 abbrev pub OpensAs : List ℕ → Result Opening Unopened → Type 0
