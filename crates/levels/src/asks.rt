@@ -2,7 +2,7 @@
 ghost use Rattle.std.specs.Prelude.{length};
 ghost use Rattle.levels.specs.inner.Rows.{RowLists};
 
-// At most 600 rows, in two lists of one length, with no price over 1,000,000 and no quantity over 200,000.
+// At most 600 rows, with a quantity for each price, no price over 1,000,000 and no quantity over 200,000.
 #[derive(Clone, Copy)]
 pub struct Asks<'a> {
     pub prices: &'a [u32],

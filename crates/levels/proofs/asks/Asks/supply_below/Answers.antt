@@ -1,4 +1,4 @@
--- `levels::level::supply_below` is what is offered strictly below a price: at or below the price one cent lower.
+-- `supply_below` is what is offered strictly below a price: at or below the price one cent lower.
 -- Assumes nothing.
 use mathlib.Core.Path.{ap, sym, ◌∙◌}
 use native.Mathlib.Omega.{arith}
